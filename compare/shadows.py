@@ -75,7 +75,9 @@ def statements(depth):
 def term(depth):
     kind = random.randrange(12)
     if kind < 3 and depth:
-        return f"{random.choice(['Device', 'Scope', 'Device', 'ThermalZone'])} ({declared() if random.random() < 0.5 else path()}) {{ {terms(depth - 1)} }}"
+        container = random.choice(["Device", "Scope", "Device", "ThermalZone"])
+        name = declared() if random.random() < 0.5 else path()
+        return f"{container} ({name}) {{ {terms(depth - 1)} }}"
     if kind < 5:
         return f"Name ({declared()}, {template()})"
     return [

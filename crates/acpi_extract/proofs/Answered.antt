@@ -12,7 +12,8 @@ use Rattle.acpi_extract.specs.Dump.{Dumped, Fault, dump_of}
 use Rattle.acpi_extract.specs.Table.{message_of}
 use Rattle.acpi_extract.specs.Words.{Asked, Code, Every, Listing, One, Request, for_file, with_option, with_signature, request_of, IsFileName, begins, IsCommandLine, of_code, of_every, of_list, of_one}
 use Rattle.acpi_extract.specs.Due.{refusal, usage, answer_to_dump, answer_to_text, answer_to_request, answer_for, fault_text, memory_text}
-use Rattle.acpi_extract.specs.Calls.{ReadsText, IsAnswer, bad_words, absent, too_large, faulty, a_dump, text_told, EndsWith}
+use Rattle.acpi_extract.specs.Calls.{ReadsText, IsAnswer, bad_words, absent, too_large, faulty, a_dump, text_told, EndsWith, CarriesOut}
+use Rattle.acpi_extract.proofs.Laws.{list_gains_nothing}
 use Rattle.acpi_extract.proofs.GrammarLaws.{tables_are_the_grammars, fault_is_the_grammars}
 
 -- ---- words
@@ -135,7 +136,7 @@ is_answer words told = by_request words told (request_of words) refl
 
 -- an end with a status of 0, 1 or 2, or 3 where there is no answer
 module _ (answer : List Named → Option Answer) (status : ℕ) (old new : World) (told : List Named) where
-  ends_low : (a : Option Answer) → answer told ≡ a → Ends answer fault_text memory_text status old new → old.files.contents ≡ Some told → status ≤ 2 → EndsWith a status old.outputs.written new.outputs.written old.console.told new.console.told
+  ends_low : (a : Option Answer) → answer told ≡ a → Ends answer fault_text memory_text status old new → old.files.contents ≡ Some told → status ≤ 2 → EndsWith a status old new
   ends_low None e end is low = let three : 3 ≡ status = sym (ap status_of e) ∙ end.settled low told is in absurd (omega (arith, three))
   ends_low (Some a) e end is low = record {
     is = sym (end.settled low told is) ∙ ap status_of e;
@@ -147,7 +148,7 @@ module _ (answer : List Named → Option Answer) (status : ℕ) (old new : World
       text_of_low None f h = absurd cc
       text_of_low (Some b) f h = h
 
-  ends_absent : answer told ≡ None → Ends answer fault_text memory_text status old new → old.files.contents ≡ Some told → IsQuiet old new → status ≡ 3 → EndsWith None status old.outputs.written new.outputs.written old.console.told new.console.told
+  ends_absent : answer told ≡ None → Ends answer fault_text memory_text status old new → old.files.contents ≡ Some told → IsQuiet old new → status ≡ 3 → EndsWith None status old new
   ends_absent e end is quiet three = record {
     is = three;
     files = subst (λ (o : Option Answer). Gains old.outputs.written new.outputs.written (due_of o)) e ((end.outs told is).all_but_told three (quiet.files, quiet.outputs));
@@ -156,7 +157,7 @@ module _ (answer : List Named → Option Answer) (status : ℕ) (old new : World
 
 module _ (words : List (List ℕ)) (status : ℕ) (old new : World) (told : List Named) (end : Ends (answer_for words) fault_text memory_text status old new) (is : old.files.contents ≡ Some told) where
   -- 0, 1 and 2 come only of an answer by relations
-  pub is_sound : status ≤ 2 → (answer : Option Answer) × IsAnswer words told answer × EndsWith answer status old.outputs.written new.outputs.written old.console.told new.console.told
+  is_sound : status ≤ 2 → (answer : Option Answer) × IsAnswer words told answer × EndsWith answer status old new
   is_sound low = (answer_for words told, is_answer words told, ends_low (answer_for words) status old new told (answer_for words told) refl end is low)
 
   settled : (answer : Option Answer) → IsAnswer words told answer → (status_of answer ≤ 2) ⊎ (answer ≡ None)
@@ -166,15 +167,24 @@ module _ (words : List (List ℕ)) (status : ℕ) (old new : World) (told : List
   settled answer (faulty asked file text fault reads within has) = inl (omega arith)
   settled answer (a_dump asked file text tables reads within dump) = inl (omega arith)
 
-  by_status : (answer : Option Answer) → answer_for words told ≡ answer → IsQuiet old new → (status_of answer ≤ 2) ⊎ (answer ≡ None) → (status ≡ status_of answer) ⊎ (status ≡ 4) → EndsWith answer status old.outputs.written new.outputs.written old.console.told new.console.told ⊎ (status ≡ 4)
+  by_status : (answer : Option Answer) → answer_for words told ≡ answer → IsQuiet old new → (status_of answer ≤ 2) ⊎ (answer ≡ None) → (status ≡ status_of answer) ⊎ (status ≡ 4) → EndsWith answer status old new ⊎ (status ≡ 4)
   by_status answer e quiet low (inr four) = inr four
   by_status answer e quiet (inl low) (inl same) = inl (ends_low (answer_for words) status old new told answer e end is (subst (λ (n : ℕ). n ≤ 2) (sym same) low))
   by_status answer e quiet (inr none) (inl same) =
       let here = ends_absent (answer_for words) status old new told (e ∙ none) end is quiet (same ∙ ap status_of none) in
-      inl (subst (λ (o : Option Answer). EndsWith o status old.outputs.written new.outputs.written old.console.told new.console.told) (sym none) here)
+      inl (subst (λ (o : Option Answer). EndsWith o status old new) (sym none) here)
 
   -- and each answer by relations is what the call ends with, where no count rose
-  pub is_complete : (answer : Option Answer) → IsAnswer words told answer → IsQuiet old new → EndsWith answer status old.outputs.written new.outputs.written old.console.told new.console.told ⊎ (status ≡ 4)
+  is_complete : (answer : Option Answer) → IsAnswer words told answer → IsQuiet old new → EndsWith answer status old new ⊎ (status ≡ 4)
   is_complete answer a quiet =
       let e = answer_is words told answer a in
       by_status answer e quiet (settled answer a) (subst (λ (o : Option Answer). (status ≡ status_of o) ⊎ (status ≡ 4)) e (end.quiet told is quiet))
+
+-- a call that so ends carries out its words
+pub carries_out : (words : List (List ℕ)) (status : ℕ) (old new : World) → Ends (answer_for words) fault_text memory_text status old new → CarriesOut words status old new
+carries_out words status old new end = record {
+  ends = end;
+  sound = λ low told is. is_sound words status old new told end is low;
+  complete = λ told is answer called quiet. is_complete words status old new told end is answer called quiet;
+  list = λ asked told is. list_gains_nothing words told status _ _ _ _ asked (end.outs told is);
+}

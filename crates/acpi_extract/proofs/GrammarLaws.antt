@@ -183,7 +183,8 @@ whole_fault (line ∷ inner) rest lines cut n x whole inside e fault h =
     let Q : List (List ℕ) → Type 0 = λ ls. HasFault n ls x in
     subst Q (sym whole) (subst (HasFault n (line ∷ inner ++ rest)) same (stray n line (inner ++ rest) inside.0))
 
-header_fault : (line signature : List ℕ) (inner rest lines : List (List ℕ)) (cut : Cut) (n : ℕ) (x : Fault) → has_blanks_alone line ≡ false → signature_of line ≡ Some signature → lines ≡ inner ++ rest → AllInner inner → EndsTable rest → cut.0 ≡ numbered_from (n + 1) inner → (all_of cut.1 ≡ Err x → HasFault (n + 1 + length inner) rest x) → all_of (Headed n signature cut.0 ∷ cut.1) ≡ Err x → HasFault n (line ∷ lines) x
+header_fault : (line signature : List ℕ) (inner rest lines : List (List ℕ)) (cut : Cut) (n : ℕ) (x : Fault) → has_blanks_alone line ≡ false → signature_of line ≡ Some signature → lines ≡ inner ++ rest → AllInner inner → EndsTable rest → cut.0 ≡ numbered_from (n + 1) inner
+    → (all_of cut.1 ≡ Err x → HasFault (n + 1 + length inner) rest x) → all_of (Headed n signature cut.0 ∷ cut.1) ≡ Err x → HasFault n (line ∷ lines) x
 header_fault line signature inner rest lines cut n x e f whole inside ends front fault h =
     subst (λ (ls : List (List ℕ)). HasFault n (line ∷ ls) x) (sym whole) (by (fault_parts n signature cut.0 (all_of cut.1) x h))
   where
@@ -205,7 +206,8 @@ whole_dump (line ∷ inner) rest lines cut n tables whole e dump h =
     let k : ◌≡◌ {A = Result (List Dumped) Fault} (Err (6100, n)) (Ok tables) = subst P e h in
     absurd cc
 
-header_dump : (line signature : List ℕ) (inner rest lines : List (List ℕ)) (cut : Cut) (n : ℕ) (tables : List Dumped) → has_blanks_alone line ≡ false → signature_of line ≡ Some signature → lines ≡ inner ++ rest → AllInner inner → EndsTable rest → cut.0 ≡ numbered_from (n + 1) inner → ((others : List Dumped) → all_of cut.1 ≡ Ok others → IsDump rest others) → all_of (Headed n signature cut.0 ∷ cut.1) ≡ Ok tables → IsDump (line ∷ lines) tables
+header_dump : (line signature : List ℕ) (inner rest lines : List (List ℕ)) (cut : Cut) (n : ℕ) (tables : List Dumped) → has_blanks_alone line ≡ false → signature_of line ≡ Some signature → lines ≡ inner ++ rest → AllInner inner → EndsTable rest → cut.0 ≡ numbered_from (n + 1) inner
+    → ((others : List Dumped) → all_of cut.1 ≡ Ok others → IsDump rest others) → all_of (Headed n signature cut.0 ∷ cut.1) ≡ Ok tables → IsDump (line ∷ lines) tables
 header_dump line signature inner rest lines cut n tables e f whole inside ends front dump h =
     let parts = first_and_rest (table_of n signature (bytes_of [] cut.0)) (all_of cut.1) tables h in
     let found = table_parts n signature (bytes_of [] cut.0) parts.0 parts.2 in

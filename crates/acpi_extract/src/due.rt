@@ -36,7 +36,8 @@ fn push_file(
     name: String,
     bytes: Vec<u8>,
 ) -> Result<(), AllocError>
-    ensures { OnOk result (map name_and_bytes files.new.items ≡ map name_and_bytes files.old.items ++ (string_bytes name, bytes.items) ∷ []) }
+    ensures { OnOk result
+        (map name_and_bytes files.new.items ≡ map name_and_bytes files.old.items ++ (string_bytes name, bytes.items) ∷ []) }
 {
     files.push(OutFile {
         name,

@@ -41,7 +41,8 @@ impl From<AllocError> for Halt {
 
 // Adds the bytes of a line to those before it.
 fn add_row(bytes: &mut Vec<u8>, number: u32, line: &[u8]) -> Result<(), Halt>
-    ensures added { OnOk result ((rest : List Numbered) → bytes_of bytes.old.items ((number, line.now) ∷ rest) ≡ bytes_of bytes.new.items rest) }
+    ensures added { OnOk result ((rest : List Numbered)
+        → bytes_of bytes.old.items ((number, line.now) ∷ rest) ≡ bytes_of bytes.new.items rest) }
     ensures refused { IfErr result (λ halt. (rest : List Numbered) → Halts halt (bytes_of bytes.old.items ((number, line.now) ∷ rest))) }
 {
     let before = bytes.len();

@@ -31,8 +31,8 @@ pub(crate) fn stem(alloc: Global, signature: &[u8]) -> Result<String, AllocError
 pub(crate) fn next_number(alloc: Global, counts: &mut Counts, stem: &str) -> Result<u64, AllocError>
     requires { unwrap_or (get_by_text counts.old stem.now) 0 + 1 < 2 ^ 64 }
     ensures number { IfOk result (λ number. number ≡ unwrap_or (get_by_text counts.old stem.now) 0 + 1) }
-    ensures counts { OnOk result ((other : List ℕ) → unwrap_or (get_by_text counts.new other) 0 ≡ unwrap_or (get_by_text counts.old other) 0 +
-        (if bytes_eq other stem.now then 1 else 0)) }
+    ensures counts { OnOk result ((other : List ℕ) → unwrap_or (get_by_text counts.new other) 0
+        ≡ unwrap_or (get_by_text counts.old other) 0 + (if bytes_eq other stem.now then 1 else 0)) }
 {
     let number = counts.get(stem).copied().unwrap_or(0) + 1;
     counts.insert(String::from_str(alloc, stem)?, number)?;

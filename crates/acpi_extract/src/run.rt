@@ -1,13 +1,7 @@
 //! The top call: a dump to the files of its tables.
-ghost use Rattle.std.specs.Prelude.{◌≡◌, ◌≤◌, ◌⊎◌, [], IsSomeAnd, map, string_bytes};
-ghost use Rattle.std.specs.declared.option.Option.{Option};
-ghost use Rattle.std.specs.Option.{ForSome};
-ghost use Rattle.iasl_ports.specs.Gained.{Gains};
-ghost use Rattle.iasl_ports.specs.Delivery.{Answer};
-ghost use Rattle.iasl_runs.specs.Ends.{files_seen, outputs_seen, console_seen, world, IsQuiet, Ends};
-ghost use Rattle.acpi_extract.specs.Due.{answer_for, fault_text, memory_text};
-ghost use Rattle.acpi_extract.specs.Calls.{IsAnswer, EndsWith};
-ghost use Rattle.acpi_extract.specs.Words.{Listing, request_of};
+ghost use Rattle.std.specs.Prelude.{map, string_bytes};
+ghost use Rattle.iasl_runs.specs.Ends.{files_seen, outputs_seen, console_seen, world};
+ghost use Rattle.acpi_extract.specs.Calls.{CarriesOut};
 
 use crate::due::decide;
 use iasl_ports::files::Files;
@@ -33,27 +27,15 @@ pub fn extract<F: Files, O: Outputs, C: Sink>(
     outs: &mut O,
     console: &mut C,
 ) -> u8
-    ensures ends { Ends (answer_for (map string_bytes words.now)) fault_text memory_text result
-        (world (files_seen (F.contents files.old) (F.faults files.old) (F.absents files.old)) (outputs_seen (O.written outs.old) (O.faults outs.old)) (console_seen (C.told console.old) (C.faults console.old)))
-        (world (files_seen (F.contents files.new) (F.faults files.new) (F.absents files.new)) (outputs_seen (O.written outs.new) (O.faults outs.new)) (console_seen (C.told console.new) (C.faults console.new))) }
-
-    // 0, 1 and 2 come only of what the words and the file call for: words that are no command line, a text that is too
-    // large or has a first fault, or the tables of a dump. Then the outputs gained the files of that and nothing else,
-    // and the console its text.
-    ensures sound { result ≤ 2 →
-        ForSome (F.contents files.old) (λ told. (answer : Option Answer) × IsAnswer (map string_bytes words.now) told answer
-        × EndsWith answer result (O.written outs.old) (O.written outs.new) (C.told console.old) (C.told console.new)) }
-
-    // And where no count rose, the call ends with whatever these call for, 3 for a file that is absent among that, or with 4.
-    ensures complete { ForSome (F.contents files.old) (λ told. (answer : Option Answer) → IsAnswer (map string_bytes words.now) told answer
-        → IsQuiet
-        (world (files_seen (F.contents files.old) (F.faults files.old) (F.absents files.old)) (outputs_seen (O.written outs.old) (O.faults outs.old)) (console_seen (C.told console.old) (C.faults console.old)))
-        (world (files_seen (F.contents files.new) (F.faults files.new) (F.absents files.new)) (outputs_seen (O.written outs.new) (O.faults outs.new)) (console_seen (C.told console.new) (C.faults console.new)))
-        → EndsWith answer result (O.written outs.old) (O.written outs.new) (C.told console.old) (C.told console.new) ⊎ (result ≡ 4)) }
-
-    // A list puts no file, whatever the status.
-    ensures list { IsSomeAnd (request_of (map string_bytes words.now)) (λ request. request.asked ≡ Listing) →
-        ForSome (F.contents files.old) (λ told. Gains (O.written outs.old) (O.written outs.new) []) }
+    // The words are carried out. The status, the files that are put and the console are those of the answer, or what is
+    // left of them after a fault (`ends`); 0, 1 and 2 come only of what the words and the file call for (`sound`), and
+    // where no count of faults rose the call ends with whatever these call for, or with 4 (`complete`); a list puts no
+    // file (`list`).
+    ensures { let before = world (files_seen (F.contents files.old) (F.faults files.old) (F.absents files.old))
+        (outputs_seen (O.written outs.old) (O.faults outs.old)) (console_seen (C.told console.old) (C.faults console.old)) in
+        let after = world (files_seen (F.contents files.new) (F.faults files.new) (F.absents files.new))
+        (outputs_seen (O.written outs.new) (O.faults outs.new)) (console_seen (C.told console.new) (C.faults console.new)) in
+        CarriesOut (map string_bytes words.now) result before after }
 {
     let decided = decide(alloc, words, files);
     finish(outs, console, decided, STOP_TEXTS)

@@ -8,7 +8,7 @@ use Rattle.acpi_values.specs.Paths.{NameSeg, AbsolutePath, is_same_path}
 use Rattle.acpi_state.proofs.Lookups.{is_same_path-true}
 use Rattle.acpi_state.specs.Outcomes.{choose}
 use Rattle.asl_tree.specs.declared.path.Path.{Path as Name}
-use Rattle.asl_tree.specs.Names.{place_of, search_path, candidates, first_of, denoted}
+use Rattle.asl_tree.specs.Names.{declared_path, search_path, candidates, first_of, denoted}
 use Rattle.asl_meaning.specs.Declarations.{Declarations, is_named, scope_path}
 use Rattle.acpi_names.specs.Paths.{number_in, is_flagged, is_named_in, AreDistinct, Extends}
 use Rattle.acpi_names.specs.Parts.{Agrees, Marks, Keeps}
@@ -88,13 +88,13 @@ candidates_same has other h (path ∷ paths) =
 pub denoted_same : (has other : AbsolutePath → Bool) → ((path : AbsolutePath) → has path ≡ other path) → (name : Name) (scope : AbsolutePath) → denoted has name scope ≡ denoted other name scope
 denoted_same has other h name scope = ap first_of (candidates_same has other h (search_path name scope))
 
-first_place : (root : Bool) (up : ℕ) (segs : List NameSeg) (scope : AbsolutePath) → choose (first_of (search_path (record { root = root; up = up; segs = segs }) scope)) [] (λ path. path) ≡ place_of (record { root = root; up = up; segs = segs }) scope
+first_place : (root : Bool) (up : ℕ) (segs : List NameSeg) (scope : AbsolutePath) → choose (first_of (search_path (record { root = root; up = up; segs = segs }) scope)) [] (λ path. path) ≡ declared_path (record { root = root; up = up; segs = segs }) scope
 first_place false zero (seg ∷ []) [] = refl
 first_place false zero (seg ∷ []) (outer ∷ scope) = refl
 first_place root up segs scope = refl
 
 -- the path of a Scope
-pub scope_is : (paths : List AbsolutePath) (named : List Bool) (name : Name) (scope : AbsolutePath) (d : Declarations) → Agrees paths named d → scope_path d name scope ≡ choose (denoted (is_named_in paths named) name scope) (place_of name scope) (λ path. path)
+pub scope_is : (paths : List AbsolutePath) (named : List Bool) (name : Name) (scope : AbsolutePath) (d : Declarations) → Agrees paths named d → scope_path d name scope ≡ choose (denoted (is_named_in paths named) name scope) (declared_path name scope) (λ path. path)
 scope_is paths named name scope d h =
     ap (λ o. choose o (choose (first_of (search_path name scope)) [] (λ path. path)) (λ path. path)) (sym (denoted_same (is_named_in paths named) (is_named d) h name scope))
     ∙ ap (λ p. choose (denoted (is_named_in paths named) name scope) p (λ path. path)) (first_place name.root name.up name.segs scope)

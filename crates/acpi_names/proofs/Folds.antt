@@ -96,7 +96,8 @@ pub leads_none : (paths : List AbsolutePath) (named : List Bool) (nodes : List N
 leads_none paths named [] scope d agrees path = agrees path ∙ sym (ap (λ d. is_named d path) (declare_none scope d))
 leads_none paths named (node ∷ nodes) scope d agrees path = agrees path ∙ sym (ap (λ d. is_named d path) (declare_none scope d))
 
-pub leads_next : (paths mid more : List AbsolutePath) (f g h : List Bool) (nodes : List Node) (i : ℕ) (node : Node) (scope inner : AbsolutePath) → i < length nodes → node ≡ get_or nodes i node → inner ≡ scope → Leads paths f mid g (declare_all (trees_of (take i nodes)) scope) → Leads mid g more h (declare (tree_of (at_of node) node.term) inner) → Leads paths f more h (declare_all (trees_of (take (i + 1) nodes)) scope)
+pub leads_next : (paths mid more : List AbsolutePath) (f g h : List Bool) (nodes : List Node) (i : ℕ) (node : Node) (scope inner : AbsolutePath) → i < length nodes → node ≡ get_or nodes i node → inner ≡ scope → Leads paths f mid g (declare_all (trees_of (take i nodes)) scope)
+    → Leads mid g more h (declare (tree_of (at_of node) node.term) inner) → Leads paths f more h (declare_all (trees_of (take (i + 1) nodes)) scope)
 leads_next paths mid more f g h nodes i node scope inner lt e same before step d agrees path =
     let taken = declare_all (trees_of (take i nodes)) scope d in
     step taken (before d agrees) path

@@ -6,7 +6,7 @@ use Rattle.acpi_values.specs.Operators.{Letter, Used, row_of}
 use Rattle.acpi_state.specs.Objects.{MethodObject, ContainerObject, DataObject, RegionObject}
 use Rattle.acpi_state.specs.FieldActs.{region_letters, field_letters}
 use Rattle.asl_tree.specs.FieldItems.{FieldItem, UnitItem, SkipItem, OffsetItem, AccessItem, ConnectionItem, ToName, ToBytes}
-use Rattle.asl_tree.specs.Names.{place_of, denoted}
+use Rattle.asl_tree.specs.Names.{declared_path, denoted}
 use Rattle.asl_tree.specs.Tree.{Tree, Use, Call, Apply, Buffer, Package, VarPackage, CondRefOf, Return, Name, Alias, External, Method, Mutex, Event, Container', Scope, Trees, no_trees, tree, count, OperationRegion, Field, IndexField, BankField, CreateField, UnitName, If, ElseIf, Else, While, For, Print, Operated, Assigned, AssignedBy, Switch, Case, Default}
 use Rattle.asl_meaning.specs.Declarations.{as_unit, as_buffer_field, As, Declarations, with_declared, scope_path, declare, calls, calls_all}
 use Rattle.asl_meaning.specs.Meaning.{spot_form}
@@ -134,7 +134,8 @@ module _ (whole : Whole) where
         let h = first_true (is_value t) (are_values ts) e in
         let k = second_true (is_value t) (are_values ts) e in
         ap (λ d'. names whole t scope d ++ names_all whole ts scope d') (undeclared t h scope d)
-        ∙ errors_both (letter_mention letter uses t (mentions (asked && asks letter t) t scope) scope) (operand_mentions asked uses letters ts scope) c (names whole t scope d) (names_all whole ts scope d) (letter_quiet letter uses t _ scope c (quiet (asked && asks letter t) t scope c)) (letter_errors letter uses t _ scope d c (value_errors (asked && asks letter t) t h scope d c)) (operands_errors asked uses letters ts k scope d c)
+        ∙ errors_both (letter_mention letter uses t (mentions (asked && asks letter t) t scope) scope) (operand_mentions asked uses letters ts scope) c (names whole t scope d) (names_all whole ts scope d) (letter_quiet letter uses t _ scope c (quiet (asked && asks letter t) t scope c))
+        (letter_errors letter uses t _ scope d c (value_errors (asked && asks letter t) t h scope d c)) (operands_errors asked uses letters ts k scope d c)
 
     targets_errors : (asked : Bool) (ts : Trees) → are_values ts ≡ true → (scope : AbsolutePath) (d c : Declarations) → names_all whole ts scope d ≡ all_errors whole (target_mentions asked ts scope) c
     targets_errors asked no_trees e scope d c = refl
@@ -171,15 +172,15 @@ module _ (whole : Whole) where
     term_errors : (t : Tree) → is_term t ≡ true → (scope : AbsolutePath) (d : Declarations) → names whole t scope d ≡ all_errors whole (term_mentions t scope d) d
     term_errors (Return value) e scope d = value_errors true value e scope d d
     term_errors (Name at name value) e scope d =
-        ap (λ es. declared_errors whole at name scope d ++ es) (value_errors true value e scope d (with_declared (place_of name scope) (As DataObject) d))
+        ap (λ es. declared_errors whole at name scope d ++ es) (value_errors true value e scope d (with_declared (declared_path name scope) (As DataObject) d))
     term_errors (Alias from source at name) e scope d = ap (λ es. use_errors whole from source scope ++ es) (sym (right_nil (declared_errors whole at name scope d)))
     term_errors (External here at name type parameters) e scope d = sym (right_nil _)
     term_errors (Method at name flags body) e scope d =
-        ap (λ es. declared_errors whole at name scope d ++ es) (block_errors body e (place_of name scope) (with_declared (place_of name scope) (As (MethodObject flags)) d))
+        ap (λ es. declared_errors whole at name scope d ++ es) (block_errors body e (declared_path name scope) (with_declared (declared_path name scope) (As (MethodObject flags)) d))
     term_errors (Mutex at name level) e scope d = sym (right_nil _)
     term_errors (Event at name) e scope d = sym (right_nil _)
     term_errors (Container' kind at name body) e scope d =
-        ap (λ es. declared_errors whole at name scope d ++ es) (block_errors body e (place_of name scope) (with_declared (place_of name scope) (As (ContainerObject kind)) d))
+        ap (λ es. declared_errors whole at name scope d ++ es) (block_errors body e (declared_path name scope) (with_declared (declared_path name scope) (As (ContainerObject kind)) d))
     term_errors (Scope here at name body) e scope d =
         ap (λ es. (use_errors whole at name scope ++ scope_errors whole here at name scope d) ++ es) (block_errors body e (scope_path d name scope) d)
     term_errors (If test body) e scope d =
@@ -192,7 +193,8 @@ module _ (whole : Whole) where
     term_errors (For start test step body) e scope d =
         let h = second_true (is_value start) (is_value test && (is_value step && are_terms body)) e in
         let k = second_true (is_value test) (is_value step && are_terms body) h in
-        errors_both (mentions true start scope) (mentions true test scope ++ (mentions true step scope ++ block_mentions body scope d)) d (names whole start scope d) (names whole test scope d ++ (names whole step scope d ++ names_all whole body scope d)) (quiet true start scope d) (value_errors true start (first_true (is_value start) (is_value test && (is_value step && are_terms body)) e) scope d d)
+        errors_both (mentions true start scope) (mentions true test scope ++ (mentions true step scope ++ block_mentions body scope d)) d (names whole start scope d) (names whole test scope d ++ (names whole step scope d ++ names_all whole body scope d)) (quiet true start scope d)
+        (value_errors true start (first_true (is_value start) (is_value test && (is_value step && are_terms body)) e) scope d d)
         (errors_both (mentions true test scope) (mentions true step scope ++ block_mentions body scope d) d (names whole test scope d) (names whole step scope d ++ names_all whole body scope d) (quiet true test scope d) (value_errors true test (first_true (is_value test) (is_value step && are_terms body) h) scope d d)
         (errors_both (mentions true step scope) (block_mentions body scope d) d (names whole step scope d) (names_all whole body scope d) (quiet true step scope d) (value_errors true step (first_true (is_value step) (are_terms body) k) scope d d) (block_errors body (second_true (is_value step) (are_terms body) k) scope d)))
     term_errors (Print place format args) e scope d =
@@ -204,7 +206,7 @@ module _ (whole : Whole) where
         errors_both (mentions true value scope) (block_mentions body scope d) d (names whole value scope d) (names_all whole body scope d) (quiet true value scope d) (value_errors true value (first_true (is_value value) (are_terms body) e) scope d d) (block_errors body (second_true (is_value value) (are_terms body) e) scope d)
     term_errors (Default body) e scope d = block_errors body e scope d
     term_errors (OperationRegion at name space args) e scope d =
-        ap (λ es. declared_errors whole at name scope d ++ es) (operands_errors true Anything region_letters args e scope d (with_declared (place_of name scope) (As (RegionObject space 0 0)) d))
+        ap (λ es. declared_errors whole at name scope d ++ es) (operands_errors true Anything region_letters args e scope d (with_declared (declared_path name scope) (As (RegionObject space 0 0)) d))
     term_errors (Field here from region flags items) e scope d = ap (λ es. use_errors whole from region scope ++ es) (items_same items scope d)
     term_errors (IndexField here from index to register flags items) e scope d =
         ap (λ es. use_errors whole from index scope ++ (use_errors whole to register scope ++ es)) (items_same items scope d)
@@ -343,10 +345,10 @@ module _ (has : AbsolutePath → Bool) where
     term_calls (Name at name value) e scope d = value_calls true value e scope d
     term_calls (Alias from source at name) e scope d = refl
     term_calls (External here at name type parameters) e scope d = refl
-    term_calls (Method at name flags body) e scope d = block_calls body e (place_of name scope) (with_declared (place_of name scope) (As (MethodObject flags)) d)
+    term_calls (Method at name flags body) e scope d = block_calls body e (declared_path name scope) (with_declared (declared_path name scope) (As (MethodObject flags)) d)
     term_calls (Mutex at name level) e scope d = refl
     term_calls (Event at name) e scope d = refl
-    term_calls (Container' kind at name body) e scope d = block_calls body e (place_of name scope) (with_declared (place_of name scope) (As (ContainerObject kind)) d)
+    term_calls (Container' kind at name body) e scope d = block_calls body e (declared_path name scope) (with_declared (declared_path name scope) (As (ContainerObject kind)) d)
     term_calls (Scope here at name body) e scope d = block_calls body e (scope_path d name scope) d
     term_calls (If test body) e scope d =
         calls_both (mentions true test scope) (block_mentions body scope d) (calls has test scope d) (calls_all has body scope d) (value_calls true test (first_true (is_value test) (are_terms body) e) scope d) (block_calls body (second_true (is_value test) (are_terms body) e) scope d)

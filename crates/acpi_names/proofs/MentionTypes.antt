@@ -11,7 +11,7 @@ use Rattle.acpi_state.specs.FieldActs.{region_letters, field_letters}
 use Rattle.acpi_state.specs.Outcomes.{choose}
 use Rattle.acpi_state.proofs.Lookups.{is_same_path-true}
 use Rattle.asl_tree.specs.FieldItems.{FieldItem, UnitItem, SkipItem, OffsetItem, AccessItem, ConnectionItem, ToName, ToBytes}
-use Rattle.asl_tree.specs.Names.{place_of, denoted}
+use Rattle.asl_tree.specs.Names.{declared_path, denoted}
 use Rattle.asl_tree.specs.declared.path.Path.{Path}
 use Rattle.asl_tree.specs.Tree.{At, Tree, Use, Call, Apply, Buffer, Package, VarPackage, CondRefOf, Return, Name, Alias, External, Method, Mutex, Event, Container', Scope, Trees, no_trees, tree, count, OperationRegion, Field, IndexField, BankField, CreateField, UnitName, If, ElseIf, Else, While, For, Print, Operated, Assigned, AssignedBy, Switch, Case, Default}
 use Rattle.asl_meaning.specs.Declarations.{As, Declarations, is_named, with_declared, scope_path, declare}
@@ -97,7 +97,8 @@ module _ (whole : Whole) where
   used_same uses (Use at name) scope = sym (right_nil _)
   used_same uses t scope = silent t scope
 
-  letter_same : (letter : Letter) (uses : Asked) (t : Tree) (scope : AbsolutePath) → types whole t scope ≡ all_types whole (mentions true t scope) → spot_types whole t scope ≡ all_types whole (mentions (is_spot t) t scope) → letter_types whole letter (types whole t scope) (spot_types whole t scope) (used_types whole uses t scope) ≡ all_types whole (letter_mention letter uses t (mentions (asks letter t) t scope) scope)
+  letter_same : (letter : Letter) (uses : Asked) (t : Tree) (scope : AbsolutePath) → types whole t scope ≡ all_types whole (mentions true t scope) → spot_types whole t scope ≡ all_types whole (mentions (is_spot t) t scope)
+      → letter_types whole letter (types whole t scope) (spot_types whole t scope) (used_types whole uses t scope) ≡ all_types whole (letter_mention letter uses t (mentions (asks letter t) t scope) scope)
   letter_same Valued uses t scope h k = h
   letter_same Kept uses t scope h k = h
   letter_same Placed uses t scope h k = k
@@ -184,7 +185,8 @@ module _ (whole : Whole) where
     operands_types uses (letter ∷ letters) no_trees e scope = refl
     operands_types uses (letter ∷ letters) (tree t ts) e scope =
         let h = first_true (is_value t) (are_values ts) e in
-        types_both (letter_mention letter uses t (mentions (asks letter t) t scope) scope) (operand_mentions true uses letters ts scope) (letter_types whole letter (types whole t scope) (spot_types whole t scope) (used_types whole uses t scope)) (operand_types whole uses letters ts scope) (letter_same letter uses t scope (value_types t h scope) (spot_same t h scope)) (operands_types uses letters ts (second_true (is_value t) (are_values ts) e) scope)
+        types_both (letter_mention letter uses t (mentions (asks letter t) t scope) scope) (operand_mentions true uses letters ts scope) (letter_types whole letter (types whole t scope) (spot_types whole t scope) (used_types whole uses t scope)) (operand_types whole uses letters ts scope)
+        (letter_same letter uses t scope (value_types t h scope) (spot_same t h scope)) (operands_types uses letters ts (second_true (is_value t) (are_values ts) e) scope)
 
     targets_types : (ts : Trees) → are_values ts ≡ true → (scope : AbsolutePath) → spot_types_all whole ts scope ≡ all_types whole (target_mentions true ts scope)
     targets_types no_trees e scope = refl
@@ -220,11 +222,11 @@ module _ (whole : Whole) where
     term_types (Alias from source at name) e scope d n = refl
     term_types (External here at name type parameters) e scope d n = refl
     term_types (Method at name flags body) e scope d n =
-        block_types body e (place_of name scope) (with_declared (place_of name scope) (As (MethodObject flags)) d) (right_empty (declared_errors whole at name scope d) _ n)
+        block_types body e (declared_path name scope) (with_declared (declared_path name scope) (As (MethodObject flags)) d) (right_empty (declared_errors whole at name scope d) _ n)
     term_types (Mutex at name level) e scope d n = refl
     term_types (Event at name) e scope d n = refl
     term_types (Container' kind at name body) e scope d n =
-        block_types body e (place_of name scope) (with_declared (place_of name scope) (As (ContainerObject kind)) d) (right_empty (declared_errors whole at name scope d) _ n)
+        block_types body e (declared_path name scope) (with_declared (declared_path name scope) (As (ContainerObject kind)) d) (right_empty (declared_errors whole at name scope d) _ n)
     term_types (Scope here at name body) e scope d n =
         ap (types_all whole body) (same_scope here at name scope d (left_empty (use_errors whole at name scope ++ scope_errors whole here at name scope d) (names_all whole body (scope_path d name scope) d) n))
         ∙ block_types body e (scope_path d name scope) d (right_empty (use_errors whole at name scope ++ scope_errors whole here at name scope d) _ n)
@@ -265,4 +267,5 @@ module _ (whole : Whole) where
     pub block_types : (ts : Trees) → are_terms ts ≡ true → (scope : AbsolutePath) (d : Declarations) → names_all whole ts scope d ≡ [] → types_all whole ts scope ≡ all_types whole (block_mentions ts scope d)
     block_types no_trees e scope d n = refl
     block_types (tree t ts) e scope d n =
-        types_both (term_mentions t scope d) (block_mentions ts scope (declare t scope d)) (types whole t scope) (types_all whole ts scope) (term_types t (first_true (is_term t) (are_terms ts) e) scope d (left_empty (names whole t scope d) (names_all whole ts scope (declare t scope d)) n)) (block_types ts (second_true (is_term t) (are_terms ts) e) scope (declare t scope d) (right_empty (names whole t scope d) _ n))
+        types_both (term_mentions t scope d) (block_mentions ts scope (declare t scope d)) (types whole t scope) (types_all whole ts scope) (term_types t (first_true (is_term t) (are_terms ts) e) scope d (left_empty (names whole t scope d) (names_all whole ts scope (declare t scope d)) n))
+        (block_types ts (second_true (is_term t) (are_terms ts) e) scope (declare t scope d) (right_empty (names whole t scope d) _ n))

@@ -5,7 +5,7 @@ use Rattle.acpi_values.specs.Paths.{AbsolutePath}
 use Rattle.acpi_values.specs.Operators.{Letter, Used, row_of}
 use Rattle.acpi_state.specs.FieldActs.{region_letters, field_letters}
 use Rattle.asl_tree.specs.FieldItems.{FieldItem, UnitItem, SkipItem, OffsetItem, AccessItem, ConnectionItem, ToName, ToBytes}
-use Rattle.asl_tree.specs.Names.{place_of}
+use Rattle.asl_tree.specs.Names.{declared_path}
 use Rattle.asl_tree.specs.Tree.{Tree, Use, Call, Apply, Buffer, Package, VarPackage, CondRefOf, Return, Name, Alias, External, Method, Mutex, Event, Container', Scope, Trees, no_trees, tree, OperationRegion, Field, IndexField, BankField, CreateField, UnitName, If, ElseIf, Else, While, For, Print, Operated, Assigned, AssignedBy, Switch, Case, Default}
 use Rattle.asl_meaning.specs.Declarations.{Declarations, scope_path, declare, declare_all, declare_items}
 use Rattle.acpi_names.specs.Errors.{Asked, Anything}
@@ -95,10 +95,10 @@ mutual
   after_term (Name at name value) scope d = quiet true value scope _
   after_term (Alias from source at name) scope d = refl
   after_term (External here at name type parameters) scope d = refl
-  after_term (Method at name flags body) scope d = after_block body (place_of name scope) _
+  after_term (Method at name flags body) scope d = after_block body (declared_path name scope) _
   after_term (Mutex at name level) scope d = refl
   after_term (Event at name) scope d = refl
-  after_term (Container' kind at name body) scope d = after_block body (place_of name scope) _
+  after_term (Container' kind at name body) scope d = after_block body (declared_path name scope) _
   after_term (Scope here at name body) scope d = after_block body (scope_path d name scope) d
   after_term (If test body) scope d =
       after_append (mentions true test scope) (block_mentions body scope d) d ∙ ap (after_all (block_mentions body scope d)) (quiet true test scope d) ∙ after_block body scope d

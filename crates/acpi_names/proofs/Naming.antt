@@ -8,7 +8,7 @@ use Rattle.asl_tree.specs.declared.term.Term as D
 use Rattle.asl_tree.specs.Tree.{At, Tree, Use, Trees, no_trees, tree}
 use Rattle.asl_tree.specs.View.{tree_of, row_trees, trees_of}
 use Rattle.acpi_names.specs.Parts.{name_at, used_name}
-use Rattle.acpi_names.specs.declared.mention.Spot.{Spot}
+use Rattle.acpi_names.specs.declared.mention.Occurrence.{Occurrence}
 use Rattle.acpi_names.specs.Shown.{spot_as, named_in, named_at}
 use Rattle.acpi_names.specs.Walked.{TermShape, OfName, term_shape, node_tree, first_trees, later_trees}
 use Rattle.acpi_names.proofs.Plain.{is_plain, plain_form}
@@ -89,9 +89,9 @@ later_none n [] le = refl
 later_none zero (node ∷ nodes) le = absurd (omega (arith, le))
 later_none (suc n) (node ∷ nodes) le = later_none n nodes (omega (arith, le))
 
-pub named_by : (place : ℕ) (nodes : List Node) (node : Node) (spot : Spot) (name : Name) → slice_get nodes place ≡ Some node → spot ≡ record { id = node.id; place = node.place } → OfName name ≡ term_shape node.term → Some (spot_as spot, name) ≡ named_at place (trees_of nodes)
+pub named_by : (place : ℕ) (nodes : List Node) (node : Node) (spot : Occurrence) (name : Name) → slice_get nodes place ≡ Some node → spot ≡ record { id = node.id; place = node.place } → OfName name ≡ term_shape node.term → Some (spot_as spot, name) ≡ named_at place (trees_of nodes)
 named_by place nodes node spot name e es en =
-    ap (λ (s : Spot). Some (spot_as s, name)) es ∙ ap (named_shape (record { id = node.id; place = node.place })) en ∙ sym (named_there nodes place node e)
+    ap (λ (s : Occurrence). Some (spot_as s, name)) es ∙ ap (named_shape (record { id = node.id; place = node.place })) en ∙ sym (named_there nodes place node e)
 
 pub unnamed_by : (place : ℕ) (nodes : List Node) (node : Node) (shape : TermShape) → slice_get nodes place ≡ Some node → shape ≡ term_shape node.term → ((name : Name) → shape ≡ OfName name → ⊥) → None ≡ named_at place (trees_of nodes)
 unnamed_by place nodes node shape e en none = by_shape shape none ∙ ap (named_shape (record { id = node.id; place = node.place })) en ∙ sym (named_there nodes place node e)

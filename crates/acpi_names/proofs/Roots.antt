@@ -26,9 +26,11 @@ pub roots_are : (path : AbsolutePath) → any_of root_objects path ≡ in_root p
 roots_are [] = refl
 roots_are (seg ∷ scope) = any_found root_objects (seg ∷ scope) refl
 
-pub all_roots : (f0 f1 f2 f3 f4 f5 f6 f7 f8 f9 : Bool) (path : AbsolutePath) → f0 ≡ is_same_path path [] → f1 ≡ (is_same_path path ((0x5F ∷ 0x52 ∷ 0x45 ∷ 0x56 ∷ []) ∷ []) || f0) → f2 ≡ (is_same_path path ((0x5F ∷ 0x4F ∷ 0x53 ∷ 0x5F ∷ []) ∷ []) || f1) → f3 ≡ (is_same_path path ((0x5F ∷ 0x4F ∷ 0x53 ∷ 0x49 ∷ []) ∷ []) || f2) → f4 ≡ (is_same_path path ((0x5F ∷ 0x47 ∷ 0x4C ∷ 0x5F ∷ []) ∷ []) || f3) → f5 ≡ (is_same_path path ((0x5F ∷ 0x54 ∷ 0x5A ∷ 0x5F ∷ []) ∷ []) || f4) → f6 ≡ (is_same_path path ((0x5F ∷ 0x53 ∷ 0x49 ∷ 0x5F ∷ []) ∷ []) || f5) → f7 ≡ (is_same_path path ((0x5F ∷ 0x53 ∷ 0x42 ∷ 0x5F ∷ []) ∷ []) || f6) → f8 ≡ (is_same_path path ((0x5F ∷ 0x50 ∷ 0x52 ∷ 0x5F ∷ []) ∷ []) || f7) → f9 ≡ (is_same_path path ((0x5F ∷ 0x47 ∷ 0x50 ∷ 0x45 ∷ []) ∷ []) || f8) → f9 ≡ in_root path
+pub all_roots : (f0 f1 f2 f3 f4 f5 f6 f7 f8 f9 : Bool) (path : AbsolutePath) → f0 ≡ is_same_path path [] → f1 ≡ (is_same_path path ((0x5F ∷ 0x52 ∷ 0x45 ∷ 0x56 ∷ []) ∷ []) || f0) → f2 ≡ (is_same_path path ((0x5F ∷ 0x4F ∷ 0x53 ∷ 0x5F ∷ []) ∷ []) || f1) → f3 ≡ (is_same_path path ((0x5F ∷ 0x4F ∷ 0x53 ∷ 0x49 ∷ []) ∷ []) || f2) → f4 ≡ (is_same_path path ((0x5F ∷ 0x47 ∷ 0x4C ∷ 0x5F ∷ []) ∷ []) || f3)
+    → f5 ≡ (is_same_path path ((0x5F ∷ 0x54 ∷ 0x5A ∷ 0x5F ∷ []) ∷ []) || f4) → f6 ≡ (is_same_path path ((0x5F ∷ 0x53 ∷ 0x49 ∷ 0x5F ∷ []) ∷ []) || f5) → f7 ≡ (is_same_path path ((0x5F ∷ 0x53 ∷ 0x42 ∷ 0x5F ∷ []) ∷ []) || f6) → f8 ≡ (is_same_path path ((0x5F ∷ 0x50 ∷ 0x52 ∷ 0x5F ∷ []) ∷ []) || f7) → f9 ≡ (is_same_path path ((0x5F ∷ 0x47 ∷ 0x50 ∷ 0x45 ∷ []) ∷ []) || f8) → f9 ≡ in_root path
 all_roots f0 f1 f2 f3 f4 f5 f6 f7 f8 f9 path e0 e1 e2 e3 e4 e5 e6 e7 e8 e9 =
-    (e9 ∙ ap (λ b. is_same_path path ((0x5F ∷ 0x47 ∷ 0x50 ∷ 0x45 ∷ []) ∷ []) || b) (e8 ∙ ap (λ b. is_same_path path ((0x5F ∷ 0x50 ∷ 0x52 ∷ 0x5F ∷ []) ∷ []) || b) (e7 ∙ ap (λ b. is_same_path path ((0x5F ∷ 0x53 ∷ 0x42 ∷ 0x5F ∷ []) ∷ []) || b) (e6 ∙ ap (λ b. is_same_path path ((0x5F ∷ 0x53 ∷ 0x49 ∷ 0x5F ∷ []) ∷ []) || b) (e5 ∙ ap (λ b. is_same_path path ((0x5F ∷ 0x54 ∷ 0x5A ∷ 0x5F ∷ []) ∷ []) || b) (e4 ∙ ap (λ b. is_same_path path ((0x5F ∷ 0x47 ∷ 0x4C ∷ 0x5F ∷ []) ∷ []) || b) (e3 ∙ ap (λ b. is_same_path path ((0x5F ∷ 0x4F ∷ 0x53 ∷ 0x49 ∷ []) ∷ []) || b) (e2 ∙ ap (λ b. is_same_path path ((0x5F ∷ 0x4F ∷ 0x53 ∷ 0x5F ∷ []) ∷ []) || b) (e1 ∙ ap (λ b. is_same_path path ((0x5F ∷ 0x52 ∷ 0x45 ∷ 0x56 ∷ []) ∷ []) || b) e0))))))))) ∙ roots_are path
+    (e9 ∙ ap (λ b. is_same_path path ((0x5F ∷ 0x47 ∷ 0x50 ∷ 0x45 ∷ []) ∷ []) || b) (e8 ∙ ap (λ b. is_same_path path ((0x5F ∷ 0x50 ∷ 0x52 ∷ 0x5F ∷ []) ∷ []) || b) (e7 ∙ ap (λ b. is_same_path path ((0x5F ∷ 0x53 ∷ 0x42 ∷ 0x5F ∷ []) ∷ []) || b) (e6 ∙ ap (λ b. is_same_path path ((0x5F ∷ 0x53 ∷ 0x49 ∷ 0x5F ∷ []) ∷ []) || b) (e5 ∙ ap (λ b. is_same_path path ((0x5F ∷ 0x54 ∷ 0x5A ∷ 0x5F ∷ []) ∷ []) || b)
+    (e4 ∙ ap (λ b. is_same_path path ((0x5F ∷ 0x47 ∷ 0x4C ∷ 0x5F ∷ []) ∷ []) || b) (e3 ∙ ap (λ b. is_same_path path ((0x5F ∷ 0x4F ∷ 0x53 ∷ 0x49 ∷ []) ∷ []) || b) (e2 ∙ ap (λ b. is_same_path path ((0x5F ∷ 0x4F ∷ 0x53 ∷ 0x5F ∷ []) ∷ []) || b) (e1 ∙ ap (λ b. is_same_path path ((0x5F ∷ 0x52 ∷ 0x45 ∷ 0x56 ∷ []) ∷ []) || b) e0))))))))) ∙ roots_are path
 
 pub root_alone : (paths : List AbsolutePath) (named : List Bool) (path : AbsolutePath) → paths ≡ [] ∷ [] → named ≡ true ∷ [] → is_named_in paths named path ≡ is_same_path path []
 root_alone paths named path e h = ap (λ ps. is_named_in ps named path) e ∙ ap (λ f. is_named_in ([] ∷ []) f path) h ∙ alone path

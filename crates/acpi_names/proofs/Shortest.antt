@@ -6,7 +6,7 @@ use Rattle.acpi_values.specs.Paths.{NameSeg, AbsolutePath}
 use Rattle.acpi_state.specs.Outcomes.{choose}
 use Rattle.acpi_state.proofs.Lookups.{is_same_path-true}
 use Rattle.asl_tree.specs.declared.path.Path.{Path as Name}
-use Rattle.asl_tree.specs.Names.{place_of, enclosing, single_segment, search_path, candidates, first_of, denoted, absolute, is_searched, spelled_element, element_path}
+use Rattle.asl_tree.specs.Names.{declared_path, enclosing, single_segment, search_path, candidates, first_of, denoted, absolute, is_searched, spelled_element, element_path}
 use Rattle.asl_meaning.proofs.Searches.{below_reverse, first_is_known, absolute_candidates, spelled_denotes}
 use Rattle.acpi_names.specs.Shortest.{name_length, shortest, last_alone, upward, unsearched, is_only, leads_to, short_use, short_element, spelled_use, spelled_item}
 
@@ -34,10 +34,10 @@ shortest_keeps P name (other ∷ names) h all = shortest_keeps P (if nat_lt (nam
     by_shorter false = h
 
 -- a name that is not searched has its one place
-pub unsearched_path : (name : Name) (scope : AbsolutePath) → is_searched name ≡ false → search_path name scope ≡ place_of name scope ∷ []
+pub unsearched_path : (name : Name) (scope : AbsolutePath) → is_searched name ≡ false → search_path name scope ≡ declared_path name scope ∷ []
 unsearched_path name scope e = by_single (single_segment name) e
   where
-    by_single : (o : Option NameSeg) → is_some o ≡ false → choose o (place_of name scope ∷ []) (λ seg. enclosing seg scope) ≡ place_of name scope ∷ []
+    by_single : (o : Option NameSeg) → is_some o ≡ false → choose o (declared_path name scope ∷ []) (λ seg. enclosing seg scope) ≡ declared_path name scope ∷ []
     by_single None h = refl
     by_single (Some seg) h = absurd (grind arith)
 
@@ -98,15 +98,15 @@ module _ (has : AbsolutePath → Bool) where
           by_searched false e all = (e, all)
 
   -- the place of a name that is not searched is its one candidate
-  placed : (name : Name) (scope path : AbsolutePath) (others : List AbsolutePath) → is_searched name ≡ false → candidates has (search_path name scope) ≡ path ∷ others → place_of name scope ≡ path
-  placed name scope path others e c = by_has (has (place_of name scope)) (sym (ap (candidates has) (unsearched_path name scope e)) ∙ c)
+  placed : (name : Name) (scope path : AbsolutePath) (others : List AbsolutePath) → is_searched name ≡ false → candidates has (search_path name scope) ≡ path ∷ others → declared_path name scope ≡ path
+  placed name scope path others e c = by_has (has (declared_path name scope)) (sym (ap (candidates has) (unsearched_path name scope e)) ∙ c)
     where
-      by_has : (b : Bool) → (if b then place_of name scope ∷ [] else []) ≡ path ∷ others → place_of name scope ≡ path
+      by_has : (b : Bool) → (if b then declared_path name scope ∷ [] else []) ≡ path ∷ others → declared_path name scope ≡ path
       by_has true h = ap (head_or path) h
       by_has false h = absurd (grind arith)
 
-  placed_path : (name : Name) (scope path : AbsolutePath) → is_searched name ≡ false → place_of name scope ≡ path → element_path has name scope ≡ path
-  placed_path name scope path e is = ap (λ c. if c then choose (denoted has name scope) (place_of name scope) (λ path. path) else place_of name scope) e ∙ is
+  placed_path : (name : Name) (scope path : AbsolutePath) → is_searched name ≡ false → declared_path name scope ≡ path → element_path has name scope ≡ path
+  placed_path name scope path e is = ap (λ c. if c then choose (denoted has name scope) (declared_path name scope) (λ path. path) else declared_path name scope) e ∙ is
 
   -- the path of an element of a Package stays
   pub element_same : (shorten : Bool) (name : Name) (scope : AbsolutePath) → element_path has (spelled_item has shorten name scope) scope ≡ element_path has name scope
@@ -123,7 +123,7 @@ module _ (has : AbsolutePath → Bool) where
           (placed (short_element has path scope) scope path [] (short_element_placed path scope) (short_leads path scope (unsearched path scope) (denoted_known name scope path e)))
           ∙ sym (placed_path name scope path s (by_candidates (candidates has (search_path name scope)) refl))
         where
-          by_candidates : (paths : List AbsolutePath) → candidates has (search_path name scope) ≡ paths → place_of name scope ≡ path
+          by_candidates : (paths : List AbsolutePath) → candidates has (search_path name scope) ≡ paths → declared_path name scope ≡ path
           by_candidates [] c = absurd (let x = sym (ap first_of c) ∙ e in grind arith)
           by_candidates (other ∷ paths) c = placed name scope other paths s c ∙ ap (λ o. choose o other (λ p. p)) (sym (ap first_of c) ∙ e)
 

@@ -13,7 +13,7 @@ use Rattle.acpi_names.specs.declared.mention.Mention.{Mention}
 use Rattle.acpi_names.specs.Shown.{shown, all_shown, Tells}
 use Rattle.asl_tree.specs.declared.path.Path.{Path as Name}
 use Rattle.asl_tree.specs.Tree.{At, Use, count}
-use Rattle.acpi_names.specs.declared.mention.Spot.{Spot}
+use Rattle.acpi_names.specs.declared.mention.Occurrence.{Occurrence}
 use Rattle.acpi_values.specs.Operators.{Used}
 use Rattle.acpi_names.specs.Errors.{Asked}
 use Rattle.acpi_names.specs.Mentions.{mentions, mentions_all, letter_mention, Used', Called, Sought, is_spot}
@@ -50,7 +50,8 @@ trees_at [] i node lt = absurd (omega (arith, lt))
 trees_at (n ∷ nodes) zero node lt = refl
 trees_at (n ∷ nodes) (suc i) node lt = trees_at nodes i node (omega (arith, lt))
 
-pub remains_next : (nodes : List Node) (i : ℕ) (node : Node) (initial now next : List Mention) (one : List AbsolutePath → List M.Mention) (first second : List AbsolutePath → Trees → List M.Mention) (whole : List AbsolutePath → List M.Mention) → i < length nodes → node ≡ get_or nodes i node → ((paths : List AbsolutePath) (ts : Trees) → first paths (tree (node_tree node) ts) ≡ one paths ++ second paths ts) → Remains initial now (λ paths. first paths (trees_of (drop i nodes))) whole → Tells now next one → Remains initial next (λ paths. second paths (trees_of (drop (i + 1) nodes))) whole
+pub remains_next : (nodes : List Node) (i : ℕ) (node : Node) (initial now next : List Mention) (one : List AbsolutePath → List M.Mention) (first second : List AbsolutePath → Trees → List M.Mention) (whole : List AbsolutePath → List M.Mention) → i < length nodes → node ≡ get_or nodes i node
+    → ((paths : List AbsolutePath) (ts : Trees) → first paths (tree (node_tree node) ts) ≡ one paths ++ second paths ts) → Remains initial now (λ paths. first paths (trees_of (drop i nodes))) whole → Tells now next one → Remains initial next (λ paths. second paths (trees_of (drop (i + 1) nodes))) whole
 remains_next nodes i node initial now next one first second whole lt e same before told paths =
     let rest = trees_of (drop (i + 1) nodes) in
     let more : suc i ≡ i + 1 = omega arith in
@@ -74,18 +75,19 @@ remains_none nodes i initial now last whole le none before paths =
     sym (right_nil (all_shown paths now)) ∙ ap (λ ms. all_shown paths now ++ ms) (sym (none paths)) ∙ ap (λ ts. all_shown paths now ++ last paths ts) (sym (no_more nodes i le)) ∙ before paths
 
 -- the mentions of a term by its shape
-pub tells_shape : (asked : Bool) (node : Node) (spot : Spot) (scope : ℕ) (shape : TermShape) (old new : List Mention) → spot ≡ record { id = node.id; place = node.place } → shape ≡ term_shape node.term → Tells old new (λ paths. shape_mentions asked (spot_as spot) shape (get_or paths scope [])) → Tells old new (λ paths. mentions asked (node_tree node) (get_or paths scope []))
+pub tells_shape : (asked : Bool) (node : Node) (spot : Occurrence) (scope : ℕ) (shape : TermShape) (old new : List Mention) → spot ≡ record { id = node.id; place = node.place } → shape ≡ term_shape node.term → Tells old new (λ paths. shape_mentions asked (spot_as spot) shape (get_or paths scope [])) → Tells old new (λ paths. mentions asked (node_tree node) (get_or paths scope []))
 tells_shape asked node spot scope shape old new es e told =
     let at : At = record { id = node.id; place = node.place } in
     tells_as old new _ _ (λ paths.
-    ap (λ (s : Spot). shape_mentions asked (spot_as s) shape (get_or paths scope [])) es ∙ ap (λ s. shape_mentions asked at s (get_or paths scope [])) e ∙ sym (shape_same asked at node.term (get_or paths scope []))) told
+    ap (λ (s : Occurrence). shape_mentions asked (spot_as s) shape (get_or paths scope [])) es ∙ ap (λ s. shape_mentions asked at s (get_or paths scope [])) e ∙ sym (shape_same asked at node.term (get_or paths scope []))) told
 
 pub count_nodes : (nodes : List Node) → count (trees_of nodes) ≡ length nodes
 unfolding trees_of
 count_nodes [] = refl
 count_nodes (node ∷ nodes) = ap suc (count_nodes nodes)
 
-pub tells_call : (asked : Bool) (at : At) (name : Name) (args : List Node) (n scope : ℕ) (old mid new : List Mention) → n ≡ length args → Tells old mid (λ paths. Called asked at name n (get_or paths scope []) ∷ []) → Tells mid new (λ paths. mentions_all asked (trees_of args) (get_or paths scope [])) → Tells old new (λ paths. shape_mentions asked at (OfCall name (trees_of args)) (get_or paths scope []))
+pub tells_call : (asked : Bool) (at : At) (name : Name) (args : List Node) (n scope : ℕ) (old mid new : List Mention) → n ≡ length args → Tells old mid (λ paths. Called asked at name n (get_or paths scope []) ∷ []) → Tells mid new (λ paths. mentions_all asked (trees_of args) (get_or paths scope []))
+    → Tells old new (λ paths. shape_mentions asked at (OfCall name (trees_of args)) (get_or paths scope []))
 tells_call asked at name args n scope old mid new e first rest =
     tells_as old new _ _ (λ paths. ap (λ k. Called asked at name k (get_or paths scope []) ∷ mentions_all asked (trees_of args) (get_or paths scope [])) (e ∙ sym (count_nodes args))) (tells_then old mid new _ _ first rest)
 
@@ -110,8 +112,8 @@ argument_next asked uses letters i t ts scope =
     argument_suc asked uses letters i t ts scope ∙ ap (λ k. optional_mentions asked uses (slice_get letters i) t scope ++ argument_mentions asked uses (drop k (letters_as letters)) ts scope) e
 
 -- a path that is used
-pub used_name : (uses : Asked) (node : Node) (spot : Spot) (name : Name) (scope : AbsolutePath) → spot ≡ record { id = node.id; place = node.place } → OfName name ≡ term_shape node.term → Used' uses (spot_as spot) name scope ∷ [] ≡ letter_mention Used uses (node_tree node) (mentions false (node_tree node) scope) scope
-used_name uses node spot name scope es e = ap (λ (s : Spot). Used' uses (spot_as s) name scope ∷ []) es ∙ by_tree (node_tree node) (shape_tree_name (record { id = node.id; place = node.place }) node.term name e)
+pub used_name : (uses : Asked) (node : Node) (spot : Occurrence) (name : Name) (scope : AbsolutePath) → spot ≡ record { id = node.id; place = node.place } → OfName name ≡ term_shape node.term → Used' uses (spot_as spot) name scope ∷ [] ≡ letter_mention Used uses (node_tree node) (mentions false (node_tree node) scope) scope
+used_name uses node spot name scope es e = ap (λ (s : Occurrence). Used' uses (spot_as s) name scope ∷ []) es ∙ by_tree (node_tree node) (shape_tree_name (record { id = node.id; place = node.place }) node.term name e)
   where
     by_tree : (t : Tree) → Use (record { id = node.id; place = node.place }) name ≡ t → Used' uses (record { id = node.id; place = node.place }) name scope ∷ [] ≡ letter_mention Used uses t (mentions false t scope) scope
     by_tree t h = ap (λ u. letter_mention Used uses u (mentions false u scope) scope) h
@@ -172,8 +174,8 @@ assign_many asked (x ∷ y ∷ []) scope le = absurd (omega (arith, le))
 assign_many asked (x ∷ y ∷ z ∷ nodes) scope le = refl
 
 -- the place of CondRefOf
-pub cond_name : (asked : Bool) (node : Node) (spot : Spot) (name : Name) (scope : AbsolutePath) → spot ≡ record { id = node.id; place = node.place } → OfName name ≡ term_shape node.term → Sought (spot_as spot) name scope ∷ [] ≡ cond_mention asked (node_tree node) scope
-cond_name asked node spot name scope es e = ap (λ (s : Spot). Sought (spot_as s) name scope ∷ []) es ∙ by_tree (node_tree node) (shape_tree_name (record { id = node.id; place = node.place }) node.term name e)
+pub cond_name : (asked : Bool) (node : Node) (spot : Occurrence) (name : Name) (scope : AbsolutePath) → spot ≡ record { id = node.id; place = node.place } → OfName name ≡ term_shape node.term → Sought (spot_as spot) name scope ∷ [] ≡ cond_mention asked (node_tree node) scope
+cond_name asked node spot name scope es e = ap (λ (s : Occurrence). Sought (spot_as s) name scope ∷ []) es ∙ by_tree (node_tree node) (shape_tree_name (record { id = node.id; place = node.place }) node.term name e)
   where
     by_tree : (t : Tree) → Use (record { id = node.id; place = node.place }) name ≡ t → Sought (record { id = node.id; place = node.place }) name scope ∷ [] ≡ cond_mention asked t scope
     by_tree t h = ap (λ u. cond_mention asked u scope) h

@@ -20,7 +20,7 @@ use Rattle.acpi_names.specs.Parts.{Leads, is_item_list, is_item_term, unit_of, l
 use Rattle.acpi_names.specs.Walked.{node_tree, part_mentions, field_mentions}
 use Rattle.acpi_names.specs.Units.{unit_in, declare_unit, unit_mentions, connection_mentions, entry_mentions}
 use Rattle.acpi_names.specs.declared.part.Over.{Over}
-use Rattle.acpi_names.specs.declared.part.Part.TheVariants as P
+use Rattle.acpi_names.specs.declared.part.NameRole.TheVariants as P
 use Rattle.acpi_names.proofs.Plain.{is_plain, plain_form}
 use Rattle.acpi_names.proofs.Folds.{at_of}
 use Rattle.acpi_names.proofs.Telling.{trees_at, no_more}
@@ -160,7 +160,8 @@ declared_suc (n ∷ nodes) (suc i) node scope d lt =
 pub units_none : (paths : List AbsolutePath) (named : List Bool) (nodes : List Node) (scope : AbsolutePath) → Leads paths named paths named (declare_items (listed_items (trees_of (take 0 nodes))) scope)
 units_none paths named nodes scope d agrees path = agrees path ∙ sym (ap (λ d. is_named d path) (declared_none nodes scope d))
 
-pub units_next : (paths mid more : List AbsolutePath) (f g h : List Bool) (nodes : List Node) (i : ℕ) (node : Node) (scope inner : AbsolutePath) → i < length nodes → node ≡ get_or nodes i node → inner ≡ scope → Leads paths f mid g (declare_items (listed_items (trees_of (take i nodes))) scope) → Leads mid g more h (declare_unit (unit_in (node_tree node)) inner) → Leads paths f more h (declare_items (listed_items (trees_of (take (i + 1) nodes))) scope)
+pub units_next : (paths mid more : List AbsolutePath) (f g h : List Bool) (nodes : List Node) (i : ℕ) (node : Node) (scope inner : AbsolutePath) → i < length nodes → node ≡ get_or nodes i node → inner ≡ scope → Leads paths f mid g (declare_items (listed_items (trees_of (take i nodes))) scope)
+    → Leads mid g more h (declare_unit (unit_in (node_tree node)) inner) → Leads paths f more h (declare_items (listed_items (trees_of (take (i + 1) nodes))) scope)
 units_next paths mid more f g h nodes i node scope inner lt e same before step d agrees path =
     let taken = declare_items (listed_items (trees_of (take i nodes))) scope d in
     let next : i + 1 ≡ suc i = omega arith in

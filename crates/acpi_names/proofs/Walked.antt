@@ -275,7 +275,8 @@ term_form here (Op.Declaration Declaration.Scope) (tree (Use at name) no_trees) 
 term_form here (Op.Declaration Declaration.OperationRegion) (tree (Use at name) (tree (Integer space) (tree offset (tree size no_trees)))) no_trees scope d = ap (λ ms. Declares at name (As (RegionObject space 0 0)) scope ∷ ms) (sym (right_nil (mentions true offset scope ++ (mentions true size scope ++ []))))
 term_form here (Op.Declaration Declaration.Field) (tree (Use from region) (tree (Integer flags) no_trees)) body scope d = told_items (items_in body) (λ items. Field here from region flags items) (Used' (ARegion here) from region scope ∷ []) scope d (λ items. refl)
 term_form here (Op.Declaration Declaration.IndexField) (tree (Use from index) (tree (Use to register) (tree (Integer flags) no_trees))) body scope d = told_items (items_in body) (λ items. IndexField here from index to register flags items) (Used' AUnit from index scope ∷ Used' AUnit to register scope ∷ []) scope d (λ items. refl)
-term_form here (Op.Declaration Declaration.BankField) (tree (Use from region) (tree (Use to bank) (tree value (tree (Integer flags) no_trees)))) body scope d = told_items (items_in body) (λ items. BankField here from region to bank value flags items) (Used' (ARegion here) from region scope ∷ Used' AUnit to bank scope ∷ (mentions true value scope ++ [])) scope d (λ items. ap (λ ms. Used' (ARegion here) from region scope ∷ Used' AUnit to bank scope ∷ (ms ++ item_mentions items scope)) (sym (right_nil (mentions true value scope))))
+term_form here (Op.Declaration Declaration.BankField) (tree (Use from region) (tree (Use to bank) (tree value (tree (Integer flags) no_trees)))) body scope d =
+    told_items (items_in body) (λ items. BankField here from region to bank value flags items) (Used' (ARegion here) from region scope ∷ Used' AUnit to bank scope ∷ (mentions true value scope ++ [])) scope d (λ items. ap (λ ms. Used' (ARegion here) from region scope ∷ Used' AUnit to bank scope ∷ (ms ++ item_mentions items scope)) (sym (right_nil (mentions true value scope))))
 term_form here (Op.Declaration Declaration.CreateField) (tree source (tree index (tree bits (tree (Use at name) no_trees)))) no_trees scope d = refl
 term_form here (Op.Declaration Declaration.CreateBitField) (tree source (tree index (tree (Use at name) no_trees))) no_trees scope d = refl
 term_form here (Op.Declaration Declaration.CreateByteField) (tree source (tree index (tree (Use at name) no_trees))) no_trees scope d = refl

@@ -10,7 +10,7 @@ use Rattle.acpi_state.specs.Objects.{Object, MethodObject, ContainerObject, Mute
 use Rattle.acpi_state.specs.Objects.{ExternalObject, ExternalData, ExternalOther, lookup, operand_count, is_method}
 use Rattle.acpi_state.specs.Outcomes.{choose}
 use Rattle.asl_tree.specs.declared.path.Path.{Path}
-use Rattle.asl_tree.specs.Names.{Known, end_of, place_of, denoted}
+use Rattle.asl_tree.specs.Names.{Known, end_of, declared_path, denoted}
 use Rattle.asl_meaning.specs.Declarations.{As, ExternalType, Declarations, nothing_declared, in_root, is_named, scope_path, with_declared}
 use Rattle.asl_meaning.specs.Declarations.{declare, declarations, calls_all, called, known_of, declare_item}
 use Rattle.asl_meaning.specs.Meaning.{SpotForm, OfResult, OfInside, NoSpot, spot_form}
@@ -130,13 +130,13 @@ unit_path segment = record { root = false; up = 0; segs = segment ∷ [] }
 module _ (whole : Whole) where
   abbrev pub declared_errors : At → Path → AbsolutePath → Declarations → List NameError
   declared_errors at name scope d =
-      let path = place_of name scope in
+      let path = declared_path name scope in
       unless (is_new d path) (Twice at path)
       ++ (step_errors at name scope ++ (unless (has_parent whole.all path) (Missing at name) ++ length_errors at name path))
 
   abbrev pub external_errors : At → At → Path → ExternalType → AbsolutePath → Declarations → List NameError
   external_errors here at name e scope d =
-      let path = place_of name scope in
+      let path = declared_path name scope in
       unless (not (is_some (lookup whole.all.declared path))) (DeclaredHere at path)
       ++
       (step_errors at name scope ++ (length_errors at name path ++ unless (agrees_with (lookup d.external path) e) (Differs here name)))
@@ -204,8 +204,8 @@ module _ (whole : Whole) where
     names (External here at name type parameters) scope d =
         external_errors here at name (record { type = type; parameters = parameters }) scope d
     names (Method at name flags body) scope d =
-        declared_errors at name scope d ++ names_all body (place_of name scope)
-        (with_declared (place_of name scope) (As (MethodObject flags)) d)
+        declared_errors at name scope d ++ names_all body (declared_path name scope)
+        (with_declared (declared_path name scope) (As (MethodObject flags)) d)
     names (Mutex at name level) scope d = declared_errors at name scope d
     names (Event at name) scope d = declared_errors at name scope d
     names (If test body) scope d = names test scope d ++ names_all body scope d
@@ -225,8 +225,8 @@ module _ (whole : Whole) where
         use_errors from region scope ++ (use_errors to bank scope ++ (names value scope d ++ items_errors items scope d))
     names (CreateField form args at name) scope d = names_all args scope d ++ declared_errors at name scope d
     names (Container' kind at name body) scope d =
-        declared_errors at name scope d ++ names_all body (place_of name scope)
-        (with_declared (place_of name scope) (As (ContainerObject kind)) d)
+        declared_errors at name scope d ++ names_all body (declared_path name scope)
+        (with_declared (declared_path name scope) (As (ContainerObject kind)) d)
     names (Scope here at name body) scope d = (use_errors at name scope ++ scope_errors here at name scope d)
         ++ names_all body (scope_path d name scope) d
     names term scope d = []
@@ -303,8 +303,8 @@ module _ (whole : Whole) where
     types (CreateField form args at name) scope = operand_types Anything (field_letters form) args scope
     types (Return value) scope = types value scope
     types (Name at name value) scope = types value scope
-    types (Method at name flags body) scope = types_all body (place_of name scope)
-    types (Container' kind at name body) scope = types_all body (place_of name scope)
+    types (Method at name flags body) scope = types_all body (declared_path name scope)
+    types (Container' kind at name body) scope = types_all body (declared_path name scope)
     types (Scope here at name body) scope = types_all body (choose (denoted (is_named whole.all) name scope) [] (λ path. path))
     types term scope = []
 

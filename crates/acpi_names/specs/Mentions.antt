@@ -9,7 +9,7 @@ use Rattle.acpi_state.specs.Objects.{MethodObject, ContainerObject, DataObject, 
 use Rattle.acpi_state.specs.Outcomes.{choose}
 use Rattle.asl_tree.specs.declared.path.Path.{Path}
 use Rattle.asl_tree.specs.FieldItems.{FieldItem, UnitItem, SkipItem, OffsetItem, AccessItem, ConnectionItem, Connected, ToName, ToBytes}
-use Rattle.asl_tree.specs.Names.{place_of, denoted}
+use Rattle.asl_tree.specs.Names.{declared_path, denoted}
 use Rattle.asl_tree.specs.Tree.{At, Tree, Use, Call, Apply, Buffer, Package, VarPackage, CondRefOf, Return, Name, Alias, External, Method}
 use Rattle.asl_tree.specs.Tree.{Mutex, Event, Container', Scope, Trees, no_trees, tree, count, OperationRegion, Field, IndexField}
 use Rattle.asl_tree.specs.Tree.{BankField, CreateField, UnitName, If, ElseIf, Else, While, For, Print, Operated, Assigned, AssignedBy}
@@ -18,7 +18,8 @@ use Rattle.asl_meaning.specs.Declarations.{Declared, As, AliasOf, ExternalType, 
 use Rattle.asl_meaning.specs.Declarations.{with_external, scope_path, declare, as_unit, as_buffer_field}
 use Rattle.asl_meaning.specs.Meaning.{SpotForm, OfResult, OfInside, NoSpot, spot_form}
 use Rattle.acpi_state.specs.FieldActs.{region_letters, field_letters}
-use Rattle.acpi_names.specs.Errors.{NameError, Missing, NoContainer, WrongCount, Asked, Anything, AnObject, AValue, AUnit, ARegion, asked_by, unless}
+use Rattle.acpi_names.specs.Errors.{NameError, Missing, NoContainer, WrongCount, Asked, Anything}
+use Rattle.acpi_names.specs.Errors.{AnObject, AValue, AUnit, ARegion, asked_by, unless}
 use Rattle.acpi_names.specs.Errors.{Whole, final, is_container, takes, unit_path, step_errors, use_errors, call_errors, declared_errors}
 use Rattle.acpi_names.specs.Errors.{external_errors, name_end, asked_types}
 
@@ -137,13 +138,13 @@ abbrev mutual
   term_mentions (External here at name type parameters) scope d = Outside here at name (record { type = type; parameters = parameters })
       scope ∷ []
   term_mentions (Method at name flags body) scope d =
-      Declares at name (As (MethodObject flags)) scope ∷ block_mentions body (place_of name scope)
-      (with_declared (place_of name scope) (As (MethodObject flags)) d)
+      Declares at name (As (MethodObject flags)) scope ∷ block_mentions body (declared_path name scope)
+      (with_declared (declared_path name scope) (As (MethodObject flags)) d)
   term_mentions (Mutex at name level) scope d = Declares at name (As (MutexObject level)) scope ∷ []
   term_mentions (Event at name) scope d = Declares at name (As EventObject) scope ∷ []
   term_mentions (Container' kind at name body) scope d =
-      Declares at name (As (ContainerObject kind)) scope ∷ block_mentions body (place_of name scope)
-      (with_declared (place_of name scope) (As (ContainerObject kind)) d)
+      Declares at name (As (ContainerObject kind)) scope ∷ block_mentions body (declared_path name scope)
+      (with_declared (declared_path name scope) (As (ContainerObject kind)) d)
   term_mentions (Scope here at name body) scope d = Opens here at name scope (scope_path d name scope) ∷ block_mentions body
       (scope_path d name scope) d
   term_mentions (If test body) scope d = mentions true test scope ++ block_mentions body scope d
@@ -173,8 +174,8 @@ abbrev mutual
 
 -- what is declared behind a mention
 abbrev pub after : Mention → Declarations → Declarations
-after (Declares at name as' scope) d = with_declared (place_of name scope) as' d
-after (Outside here at name type scope) d = with_external (in_root (place_of name scope)) (place_of name scope) type d
+after (Declares at name as' scope) d = with_declared (declared_path name scope) as' d
+after (Outside here at name type scope) d = with_external (in_root (declared_path name scope)) (declared_path name scope) type d
 after _ d = d
 
 abbrev pub after_all : List Mention → Declarations → Declarations

@@ -15,15 +15,15 @@ use Rattle.asl_tree.specs.declared.term.Declaration.TheVariants as Declaration
 use Rattle.asl_tree.specs.declared.term.Control.TheVariants as Control
 use Rattle.asl_meaning.specs.Declarations.{is_named, As, AliasOf, Declarations, with_declared, with_external, in_root, scope_path}
 use Rattle.asl_meaning.specs.Declarations.{declare_all, declare_items}
-use Rattle.asl_tree.specs.Names.{place_of}
+use Rattle.asl_tree.specs.Names.{declared_path}
 use Rattle.asl_tree.specs.View.{item_in, items_in}
 use Rattle.asl_tree.specs.FieldItems.{FieldItem}
 use Rattle.asl_tree.specs.Tree.{Tree, Use, Integer, String, UnitName, Trees, no_trees, tree}
 use Rattle.acpi_names.specs.Paths.{is_named_in}
 use Rattle.acpi_names.specs.declared.part.What.{What}
 use Rattle.acpi_names.specs.declared.part.What.TheVariants as W
-use Rattle.acpi_names.specs.declared.part.Part.{Part}
-use Rattle.acpi_names.specs.declared.part.Part.TheVariants as P
+use Rattle.acpi_names.specs.declared.part.NameRole.{NameRole}
+use Rattle.acpi_names.specs.declared.part.NameRole.TheVariants as P
 use Rattle.acpi_names.specs.declared.part.Over.TheVariants as O
 
 -- the object that is declared
@@ -100,21 +100,21 @@ is_there None = false
 is_there (Some a) = true
 
 -- a form that fits
-abbrev pub fitting : Bool → Part → Part
+abbrev pub fitting : Bool → NameRole → NameRole
 fitting true part = part
 fitting false part = P.Nothing
 
 -- a form whose first argument is a name and whose second, third and fourth are numbers
-abbrev pub with_number : Option ℕ → (ℕ → Part) → Part
+abbrev pub with_number : Option ℕ → (ℕ → NameRole) → NameRole
 with_number None part = P.Nothing
 with_number (Some n) part = part n
 
-abbrev pub external_part : Trees → Trees → ℕ → Part
+abbrev pub external_part : Trees → Trees → ℕ → NameRole
 external_part args body type =
     if are 2 args then fitting (are 0 body) (P.External type None)
     else with_number (number_at 2 args) (λ n. fitting (are 3 args && are 0 body) (P.External type (Some n)))
 
-abbrev pub part_of : Op → Trees → Trees → Part
+abbrev pub part_of : Op → Trees → Trees → NameRole
 part_of (Op.Declaration Declaration.Name) args body = fitting (is_there (name_at 0 args) && (are 2 args && are 0 body))
     (P.Declares 0 W.Data false)
 part_of (Op.Declaration Declaration.Alias) args body =
@@ -179,16 +179,18 @@ opened true body path d = declare_all body path d
 opened false body path d = d
 
 -- what is declared by a part
-abbrev pub declare_part : Part → Trees → Trees → AbsolutePath → Declarations → Declarations
+abbrev pub declare_part : NameRole → Trees → Trees → AbsolutePath → Declarations → Declarations
 declare_part P.Nothing args body scope d = d
 declare_part (P.Declares n what opens) args body scope d =
     choose (name_at n args) d
-    (λ name. opened opens body (place_of name scope) (with_declared (place_of name scope) (As (object_of what)) d))
+    (λ name. opened opens body (declared_path name scope) (with_declared (declared_path name scope) (As (object_of what)) d))
 declare_part P.Alias args body scope d =
-    choose (name_at 0 args) d (λ source. choose (name_at 1 args) d (λ name. with_declared (place_of name scope) (AliasOf source scope) d))
+    choose (name_at 0 args) d
+    (λ source. choose (name_at 1 args) d (λ name. with_declared (declared_path name scope) (AliasOf source scope) d))
 declare_part (P.External type parameters) args body scope d =
     choose (name_at 0 args) d
-    (λ name. with_external (in_root (place_of name scope)) (place_of name scope) (record { type = type; parameters = parameters }) d)
+    (λ name.
+    with_external (in_root (declared_path name scope)) (declared_path name scope) (record { type = type; parameters = parameters }) d)
 declare_part P.Scope args body scope d = choose (name_at 0 args) d (λ name. declare_all body (scope_path d name scope) d)
 declare_part P.Returns args body scope d = d
 declare_part P.Prints args body scope d = d
@@ -230,7 +232,7 @@ Keeps paths named more flags = (path : AbsolutePath) → is_named_in more flags 
 -- the flags name the path of one name more, where there is one
 abbrev pub MarksSome : List AbsolutePath → List Bool → List AbsolutePath → List Bool → Option Path → AbsolutePath → Type 0
 MarksSome paths named more flags None scope = Keeps paths named more flags
-MarksSome paths named more flags (Some name) scope = Marks paths named more flags (place_of name scope)
+MarksSome paths named more flags (Some name) scope = Marks paths named more flags (declared_path name scope)
 
 -- from names that agree with some declarations to names that agree with those behind
 abbrev pub Leads : List AbsolutePath → List Bool → List AbsolutePath → List Bool → (Declarations → Declarations) → Type 0

@@ -9,14 +9,14 @@ use Rattle.acpi_names.specs.Parts.{object_of}
 use Rattle.acpi_names.specs.Errors.{unit_path}
 use Rattle.acpi_names.specs.Errors as E
 use Rattle.acpi_names.specs.Mentions as M
-use Rattle.acpi_names.specs.declared.mention.Spot.{Spot}
+use Rattle.acpi_names.specs.declared.mention.Occurrence.{Occurrence}
 use Rattle.acpi_names.specs.declared.mention.Named.{Named}
 use Rattle.acpi_names.specs.declared.mention.Declared.{Declared}
 use Rattle.acpi_names.specs.declared.mention.WrittenName.{WrittenName}
 use Rattle.acpi_names.specs.declared.mention.Asked.{Asked}
 use Rattle.acpi_names.specs.declared.mention.Mention.{Mention}
 
-abbrev pub spot_as : Spot → At
+abbrev pub spot_as : Occurrence → At
 spot_as spot = record { id = spot.id; place = spot.place }
 
 abbrev pub written_as : WrittenName → Path

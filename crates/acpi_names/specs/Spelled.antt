@@ -3,7 +3,7 @@ use Rattle.std.specs.Prelude.{Bool, List, [], ◌∷◌}
 use Rattle.acpi_values.specs.Paths.{AbsolutePath}
 use Rattle.acpi_state.specs.Outcomes.{choose}
 use Rattle.asl_tree.specs.declared.path.Path.{Path}
-use Rattle.asl_tree.specs.Names.{place_of, denoted, spelled_name}
+use Rattle.asl_tree.specs.Names.{declared_path, denoted, spelled_name}
 use Rattle.asl_meaning.specs.Declarations.{ExternalType}
 use Rattle.acpi_names.specs.Shortest.{spelled_use, spelled_item}
 use Rattle.asl_tree.specs.FieldItems.{FieldItem, ConnectionItem, Connected, ToName, ToBytes}
@@ -73,9 +73,10 @@ module _ (shorten : Bool) (has : AbsolutePath → Bool) (says : AbsolutePath →
     spelled (Name at name value) scope = Name at name (spelled value scope)
     spelled (Alias from source at name) scope = Alias from (spelled_use has shorten source scope) at name
     spelled (External here at name type parameters) scope =
-        let e = says (place_of name scope) (record { type = type; parameters = parameters }) in External here at name e.type e.parameters
-    spelled (Method at name flags body) scope = Method at name flags (spelled_all body (place_of name scope))
-    spelled (Container' kind at name body) scope = Container' kind at name (spelled_all body (place_of name scope))
+        let e = says (declared_path name scope) (record { type = type; parameters = parameters }) in
+        External here at name e.type e.parameters
+    spelled (Method at name flags body) scope = Method at name flags (spelled_all body (declared_path name scope))
+    spelled (Container' kind at name body) scope = Container' kind at name (spelled_all body (declared_path name scope))
     spelled (Scope here at name body) scope = Scope here at (spelled_name has name scope) (spelled_all body (inner_scope has name scope))
     spelled (Item item) scope = Item (item_spelled shorten has item scope)
     spelled term scope = term

@@ -10,7 +10,7 @@ use Rattle.asl_tree.specs.declared.path.Path.{Path}
 use Rattle.asl_tree.specs.declared.term.Op.{Op}
 use Rattle.asl_tree.specs.declared.term.Special.TheVariants as Special
 use Rattle.asl_tree.specs.declared.term.Symbolic.TheVariants as Symbolic
-use Rattle.asl_tree.specs.Names.{place_of}
+use Rattle.asl_tree.specs.Names.{declared_path}
 use Rattle.asl_tree.specs.View.{tree_of, row_trees, trees_of, items_in, fits, form}
 use Rattle.asl_tree.specs.declared.term.Node.{Node}
 use Rattle.asl_tree.specs.declared.term.Term.{Term}
@@ -20,8 +20,8 @@ use Rattle.acpi_names.specs.declared.part.Shape.TheVariants as S
 use Rattle.asl_meaning.specs.Meaning.{spot_form}
 use Rattle.asl_tree.specs.Tree.{At, Tree, Trees, no_trees, tree, count}
 use Rattle.asl_meaning.specs.Declarations.{As, AliasOf, Declarations, with_declared, scope_path}
-use Rattle.acpi_names.specs.declared.part.Part.{Part}
-use Rattle.acpi_names.specs.declared.part.Part.TheVariants as P
+use Rattle.acpi_names.specs.declared.part.NameRole.{NameRole}
+use Rattle.acpi_names.specs.declared.part.NameRole.TheVariants as P
 use Rattle.acpi_names.specs.declared.part.Over.{Over}
 use Rattle.acpi_names.specs.declared.part.Over.TheVariants as O
 use Rattle.acpi_names.specs.declared.part.ValueForm.{ValueForm}
@@ -119,13 +119,13 @@ abbrev pub opened_mentions : Bool → Trees → AbsolutePath → Declarations �
 opened_mentions true body path d = block_mentions body path d
 opened_mentions false body path d = []
 
-abbrev pub part_mentions : Part → At → Op → Trees → Trees → AbsolutePath → Declarations → List Mention
+abbrev pub part_mentions : NameRole → At → Op → Trees → Trees → AbsolutePath → Declarations → List Mention
 part_mentions P.Nothing here op args body scope d = value_mentions (value_form_of op args body) true args body scope
 part_mentions (P.Declares n what opens) here op args body scope d =
     choose (named_at n args) [] (λ m.
     mentions_all true (first_trees n args) scope
     ++ (Declares m.0 m.1 (As (object_of what)) scope ∷ (mentions_all true (later_trees (suc n) args) scope
-    ++ opened_mentions opens body (place_of m.1 scope) (with_declared (place_of m.1 scope) (As (object_of what)) d))))
+    ++ opened_mentions opens body (declared_path m.1 scope) (with_declared (declared_path m.1 scope) (As (object_of what)) d))))
 part_mentions P.Alias here op args body scope d =
     choose (named_at 0 args) []
     (λ s. choose (named_at 1 args) [] (λ m. Used' AnObject s.0 s.1 scope ∷ Declares m.0 m.1 (AliasOf s.1 scope) scope ∷ []))

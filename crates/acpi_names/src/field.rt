@@ -2,7 +2,7 @@
 ghost use Rattle.std.specs.Prelude.{◌≡◌, ◌<◌, ◌∷◌, [], length, get_or, OnOk};
 ghost use Rattle.asl_tree.specs.View.{trees_of};
 ghost use Rattle.asl_tree.specs.declared.term.Op.{Op};
-ghost use Rattle.acpi_names.specs.declared.part.Part.TheVariants as P;
+ghost use Rattle.acpi_names.specs.declared.part.NameRole.TheVariants as P;
 ghost use Rattle.asl_meaning.specs.Declarations.{declare_items};
 ghost use Rattle.acpi_names.specs.Mentions.{item_mentions};
 ghost use Rattle.acpi_names.specs.Paths.{Extends};
@@ -14,7 +14,7 @@ ghost use Rattle.acpi_names.specs.Folding.{LeadsBy, TellsBy};
 
 use crate::index::{Index, reach};
 use crate::mention::{
-    Asked, Declared, Mention, Spot, WrittenName, first_nodes, later_nodes, name_at, spot_of,
+    Asked, Declared, Mention, Occurrence, WrittenName, first_nodes, later_nodes, name_at, spot_of,
 };
 use crate::part::{Over, What};
 use crate::walk::values;
@@ -178,7 +178,7 @@ fn use_at<'a>(
 // What the arguments of a field use.
 fn field_uses<'a>(
     out: &mut Vec<Mention<'a>>,
-    here: Spot,
+    here: Occurrence,
     over: Over,
     args: &'a [Node],
     scope: usize,
@@ -209,7 +209,7 @@ fn field_uses<'a>(
 pub(crate) fn fold_field<'a>(
     index: &mut Index,
     out: &mut Vec<Mention<'a>>,
-    here: Spot,
+    here: Occurrence,
     over: Over,
     args: &'a [Node],
     body: &'a [Node],

@@ -1,11 +1,11 @@
 //! The names of a block, as its terms declare them.
 ghost use Rattle.std.specs.Prelude.{◌≡◌, ◌<◌, ◌∷◌, [], length, get_or, IfOk, OnOk, IfSome};
-ghost use Rattle.asl_tree.specs.Names.{below, place_of, denoted};
+ghost use Rattle.asl_tree.specs.Names.{below, declared_path, denoted};
 ghost use Rattle.asl_tree.specs.Tree.{Trees};
 ghost use Rattle.asl_tree.specs.View.{trees_of};
 ghost use Rattle.asl_tree.specs.declared.term.Op.{Op};
-ghost use Rattle.acpi_names.specs.declared.mention.Spot.{Spot};
-ghost use Rattle.acpi_names.specs.declared.part.Part.TheVariants as P;
+ghost use Rattle.acpi_names.specs.declared.mention.Occurrence.{Occurrence};
+ghost use Rattle.acpi_names.specs.declared.part.NameRole.TheVariants as P;
 ghost use Rattle.acpi_names.specs.Mentions.{term_mentions, block_mentions};
 ghost use Rattle.acpi_names.specs.Shown.{all_shown, Tells};
 ghost use Rattle.acpi_names.specs.Walked.{node_tree, print_mentions};
@@ -15,12 +15,12 @@ ghost use Rattle.acpi_names.specs.Paths.{Extends, path_with};
 ghost use Rattle.acpi_names.specs.Parts.{Agrees, Marks, Keeps, Leads, part_of};
 
 use crate::field::fold_field;
+use crate::lookup::{denotes, intern, prefixed};
 use crate::mention::{
-    Asked, Declared, Mention, Spot, WrittenName, first_nodes, later_nodes, name_at, spot_of,
+    Asked, Declared, Mention, Occurrence, WrittenName, first_nodes, later_nodes, name_at, spot_of,
 };
-use crate::part::{Part, Shape, What, part_for, shape_of};
+use crate::part::{NameRole, Shape, What, part_for, shape_of};
 use crate::paths::Paths;
-use crate::place::{denotes, intern, prefixed};
 use crate::walk::{form, spot, value, values};
 use asl_tree::path::{NameSeg, Path};
 use asl_tree::term::{Node, Op};
@@ -64,10 +64,10 @@ fn declared(index: &mut Index, name: &Path, scope: usize) -> Result<usize, Alloc
     requires all { length index.old.named.items ≡ length index.old.paths }
     ensures size { OnOk result (length index.new.named.items ≡ length index.new.paths) }
     ensures within { IfOk result (λ n. n < length index.new.paths) }
-    ensures path { IfOk result (λ n. get_or index.new.paths n [] ≡ place_of name.now (get_or index.old.paths scope [])) }
+    ensures path { IfOk result (λ n. get_or index.new.paths n [] ≡ declared_path name.now (get_or index.old.paths scope [])) }
     ensures others { OnOk result (Extends index.old.paths index.new.paths) }
     ensures names { OnOk result (Marks index.old.paths index.old.named.items index.new.paths index.new.named.items
-        (place_of name.now (get_or index.old.paths scope []))) }
+        (declared_path name.now (get_or index.old.paths scope []))) }
 {
     let outer = prefixed(&index.paths, name, scope);
     let number = reach(index, outer, name.segs.as_slice())?;
@@ -191,7 +191,7 @@ fn fold_term<'a>(
 fn fold_form<'a>(
     index: &mut Index,
     out: &mut Vec<Mention<'a>>,
-    here: Spot,
+    here: Occurrence,
     op: Op,
     args: &'a [Node],
     body: &'a [Node],
@@ -208,40 +208,40 @@ fn fold_form<'a>(
         (get_or index.old.paths scope [])) }
 {
     match part_for(op, args, body) {
-        Part::Nothing => {
+        NameRole::Nothing => {
             form(out, op, args, body, scope, true)?;
             Ok(())
         }
-        Part::Declares { name, what, opens } => {
+        NameRole::Declares { name, what, opens } => {
             fold_declared(index, out, name, what, opens, args, body, scope)?;
             Ok(())
         }
-        Part::Alias => {
+        NameRole::Alias => {
             fold_alias(index, out, args, scope)?;
             Ok(())
         }
-        Part::External { object, parameters } => {
+        NameRole::External { object, parameters } => {
             fold_external(index, out, here, object, parameters, args, scope)?;
             Ok(())
         }
-        Part::Scope => {
+        NameRole::Scope => {
             fold_scope(index, out, here, args, body, scope)?;
             Ok(())
         }
-        Part::Within => {
+        NameRole::Within => {
             values(out, args, scope, true)?;
             fold(index, out, body, scope)?;
             Ok(())
         }
-        Part::Returns => {
+        NameRole::Returns => {
             values(out, args, scope, true)?;
             Ok(())
         }
-        Part::Prints => {
+        NameRole::Prints => {
             printed(out, args, scope)?;
             Ok(())
         }
-        Part::Units(over) => {
+        NameRole::Units(over) => {
             fold_field(index, out, here, over, args, body, scope)?;
             Ok(())
         }
@@ -280,7 +280,7 @@ fn fold_declared<'a>(
     ensures others { OnOk result (Extends index.old.paths index.new.paths) }
     ensures names { OnOk result (LeadsBy index.old.paths index.old.named.items index.new.paths index.new.named.items
         (P.Declares place what opens) (trees_of args.now) (trees_of body.now) (get_or index.old.paths scope [])) }
-    ensures told { OnOk result ((here : Spot) (op : Op) → TellsBy index.old.paths index.old.named.items index.new.paths out.old.items
+    ensures told { OnOk result ((here : Occurrence) (op : Op) → TellsBy index.old.paths index.old.named.items index.new.paths out.old.items
         out.new.items (P.Declares place what opens) here op (trees_of args.now) (trees_of body.now) (get_or index.old.paths scope [])) }
 {
     match name_at(args, place) {
@@ -313,9 +313,9 @@ fn fold_alias<'a>(
     requires all { length index.old.named.items ≡ length index.old.paths }
     ensures size { OnOk result (length index.new.named.items ≡ length index.new.paths) }
     ensures others { OnOk result (Extends index.old.paths index.new.paths) }
-    ensures names { OnOk result ((body : Trees) → LeadsBy index.old.paths index.old.named.items index.new.paths index.new.named.items P.Alias
-        (trees_of args.now) body (get_or index.old.paths scope [])) }
-    ensures told { OnOk result ((here : Spot) (op : Op) (body : Trees) → TellsBy index.old.paths index.old.named.items index.new.paths
+    ensures names { OnOk result ((body : Trees) → LeadsBy index.old.paths index.old.named.items index.new.paths index.new.named.items
+        P.Alias (trees_of args.now) body (get_or index.old.paths scope [])) }
+    ensures told { OnOk result ((here : Occurrence) (op : Op) (body : Trees) → TellsBy index.old.paths index.old.named.items index.new.paths
         out.old.items out.new.items P.Alias here op (trees_of args.now) body (get_or index.old.paths scope [])) }
 {
     match name_at(args, 0) {
@@ -348,7 +348,7 @@ fn fold_alias<'a>(
 fn fold_external<'a>(
     index: &mut Index,
     out: &mut Vec<Mention<'a>>,
-    here: Spot,
+    here: Occurrence,
     object: u64,
     parameters: Option<u64>,
     args: &'a [Node],
@@ -384,7 +384,7 @@ fn fold_external<'a>(
 fn fold_scope<'a>(
     index: &mut Index,
     out: &mut Vec<Mention<'a>>,
-    here: Spot,
+    here: Occurrence,
     args: &'a [Node],
     body: &'a [Node],
     scope: usize,
@@ -393,10 +393,10 @@ fn fold_scope<'a>(
     requires all { length index.old.named.items ≡ length index.old.paths }
     ensures size { OnOk result (length index.new.named.items ≡ length index.new.paths) }
     ensures others { OnOk result (Extends index.old.paths index.new.paths) }
-    ensures names { OnOk result (LeadsBy index.old.paths index.old.named.items index.new.paths index.new.named.items P.Scope (trees_of args.now)
-        (trees_of body.now) (get_or index.old.paths scope [])) }
-    ensures told { OnOk result ((op : Op) → TellsBy index.old.paths index.old.named.items index.new.paths out.old.items out.new.items P.Scope
-        here op (trees_of args.now) (trees_of body.now) (get_or index.old.paths scope [])) }
+    ensures names { OnOk result (LeadsBy index.old.paths index.old.named.items index.new.paths index.new.named.items P.Scope
+        (trees_of args.now) (trees_of body.now) (get_or index.old.paths scope [])) }
+    ensures told { OnOk result ((op : Op) → TellsBy index.old.paths index.old.named.items index.new.paths out.old.items out.new.items
+        P.Scope here op (trees_of args.now) (trees_of body.now) (get_or index.old.paths scope [])) }
 {
     match name_at(args, 0) {
         Some(found) => {
@@ -417,13 +417,13 @@ fn fold_scope<'a>(
 
 /// The names of a block: all its paths, and its mentions.
 #[derive(Drop)]
-pub struct Found<'a> {
+pub struct BlockNames<'a> {
     pub index: Index,
     pub mentions: Vec<Mention<'a>>,
 }
 
 /// The names that the terms of a block declare, those of the root, and all mentions.
-pub fn names_of(alloc: Global, nodes: &[Node]) -> Result<Found<'_>, AllocError>
+pub fn names_of(alloc: Global, nodes: &[Node]) -> Result<BlockNames<'_>, AllocError>
     ensures size { IfOk result (λ f. length f.index.named.items ≡ length f.index.paths) }
     ensures names { IfOk result (λ f. Agrees f.index.paths f.index.named.items (declarations (trees_of nodes.now))) }
     ensures told { IfOk result (λ f. all_shown f.index.paths f.mentions.items ≡ block_mentions (trees_of nodes.now) [] nothing_declared) }
@@ -431,7 +431,7 @@ pub fn names_of(alloc: Global, nodes: &[Node]) -> Result<Found<'_>, AllocError>
     let mut index = start(alloc)?;
     let mut mentions = Vec::new(alloc);
     fold(&mut index, &mut mentions, nodes, 0)?;
-    Ok(Found { index, mentions })
+    Ok(BlockNames { index, mentions })
 }
 
 /// What a used name denotes in a scope.

@@ -15,10 +15,12 @@ ghost use Rattle.acpi_names.specs.Shortest.{spelled_use};
 /// does. For a name that denotes nothing it finds nothing (ACPI Specification 6.4, 5.3).
 pub fn searches_find_what_is_denoted()
     ensures there { (shorten : Bool) (program : Trees) (names : Names) → AreNamesOf program names
-        → (name : Path) (scope path : AbsolutePath) → denoted (is_named (declarations program)) name scope ≡ Some path → is_some (object_at names path) ≡ true
+        → (name : Path) (scope path : AbsolutePath) → denoted (is_named (declarations program)) name scope ≡ Some path
+        → is_some (object_at names path) ≡ true
         → first_there names (search_path (spelled_use (is_named (declarations program)) shorten name scope) scope) ≡ Some path }
     ensures absent { (shorten : Bool) (program : Trees) (names : Names) → AreNamesOf program names
-        → (name : Path) (scope path : AbsolutePath) → denoted (is_named (declarations program)) name scope ≡ Some path → object_at names path ≡ None
+        → (name : Path) (scope path : AbsolutePath)
+        → denoted (is_named (declarations program)) name scope ≡ Some path → object_at names path ≡ None
         → first_there names (search_path (spelled_use (is_named (declarations program)) shorten name scope) scope) ≡ None }
     ensures nothing { (shorten : Bool) (program : Trees) (names : Names) → AreNamesOf program names
         → (name : Path) (scope : AbsolutePath) → denoted (is_named (declarations program)) name scope ≡ None

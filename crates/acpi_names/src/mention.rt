@@ -12,7 +12,7 @@ use iasl_messages::place::Place;
 
 /// Which node of the program is meant, and its place.
 #[derive(Clone, Copy, PartialEq, Eq, Debug)]
-pub struct Spot {
+pub struct Occurrence {
     pub id: u32,
     pub place: Place,
 }
@@ -20,7 +20,7 @@ pub struct Spot {
 /// A name with its node.
 #[derive(Clone, Copy)]
 pub struct Named<'a> {
-    pub at: Spot,
+    pub at: Occurrence,
     pub name: &'a Path,
 }
 
@@ -48,7 +48,7 @@ pub enum Asked {
     Mutex,
     Event,
     Unit,
-    Region(Spot),
+    Region(Occurrence),
 }
 
 /// A mention of a name. `scope` is the number of the path of the scope in which it stands.
@@ -56,34 +56,34 @@ pub enum Asked {
 pub enum Mention<'a> {
     Used {
         asked: Asked,
-        at: Spot,
+        at: Occurrence,
         name: &'a Path,
         scope: usize,
     },
     /// A name that may lead nowhere.
     Sought {
-        at: Spot,
+        at: Occurrence,
         name: &'a Path,
         scope: usize,
     },
     /// A name with arguments behind it. `asked` says whether it stands where a value is asked for.
     Called {
         asked: bool,
-        at: Spot,
+        at: Occurrence,
         name: &'a Path,
         args: usize,
         scope: usize,
     },
     Declares {
-        at: Spot,
+        at: Occurrence,
         name: WrittenName<'a>,
         what: Declared<'a>,
         scope: usize,
     },
     /// The name of an External.
     Outside {
-        here: Spot,
-        at: Spot,
+        here: Occurrence,
+        at: Occurrence,
         name: &'a Path,
         object: u64,
         parameters: Option<u64>,
@@ -91,18 +91,18 @@ pub enum Mention<'a> {
     },
     /// The name of a Scope; its terms have the path with the number `inner`.
     Opens {
-        here: Spot,
-        at: Spot,
+        here: Occurrence,
+        at: Occurrence,
         name: &'a Path,
         scope: usize,
         inner: usize,
     },
 }
 
-pub fn spot_of(node: &Node) -> Spot
+pub fn spot_of(node: &Node) -> Occurrence
     ensures { result ≡ record { id = node.now.id; place = node.now.place } }
 {
-    Spot {
+    Occurrence {
         id: node.id,
         place: node.place,
     }

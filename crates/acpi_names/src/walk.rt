@@ -319,7 +319,8 @@ fn elements<'a>(
     scope: usize,
     asked: bool,
 ) -> Result<(), AllocError>
-    ensures { OnOk result (Tells out.old.items out.new.items (λ paths. element_mentions asked (trees_of nodes.now) (get_or paths scope []))) }
+    ensures { OnOk result
+        (Tells out.old.items out.new.items (λ paths. element_mentions asked (trees_of nodes.now) (get_or paths scope []))) }
 {
     for node in nodes {
         value(out, node, scope, asks_element(asked, node))?;

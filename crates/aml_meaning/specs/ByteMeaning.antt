@@ -25,7 +25,7 @@ use Rattle.acpi_state.specs.FieldUnits.{Connection, ToObject, ToResource, Extent
 use Rattle.acpi_state.specs.Registers.{register_of}
 use Rattle.acpi_state.specs.FieldActs.{region_letters, make_region, FieldForm, field_letters, make_buffer_field}
 use Rattle.asl_meaning.specs.FieldTerms.{Cursor, first_unit, behind_bits, accessed, connected_to, resource_of, create_unit}
-use Rattle.asl_tree.specs.Names.{place_of, is_searched, search_path}
+use Rattle.asl_tree.specs.Names.{declared_path, is_searched, search_path}
 use Rattle.asl_tree.specs.declared.path.Path.{Path}
 use Rattle.asl_meaning.specs.Meaning.{SpotForm, OfResult, OfInside, NoSpot, spot_form}
 use Rattle.aml_code.specs.Fronts.{Front, number_front, package_front, integer_front, name_front, text_front, begins_name, bit_count_front}
@@ -152,7 +152,7 @@ module _ (width : Width) where
   abbrev pub element_name : AbsolutePath → Path → List ℕ → ByteRun (Value × List ℕ)
   element_name scope name rest =
       followed_by rest (if is_searched name then then_run (find name scope) (λ path. done (Reference (Named path))) else
-      done (Reference (Named (place_of name scope))))
+      done (Reference (Named (declared_path name scope))))
 
   abbrev pub element_at : Walk → List ℕ → AbsolutePath → ByteRun (Value × List ℕ)
   element_at w bytes scope =
@@ -215,7 +215,7 @@ created_term path object = then_run (create path object) (λ u. done (Normal fal
 -- the byte of the level
 abbrev pub mutex_term : AbsolutePath → Path → List ℕ → ByteRun (Flow × List ℕ)
 mutex_term scope name [] = stop Broken
-mutex_term scope name (level ∷ rest) = followed_by rest (created_term (place_of name scope) (MutexObject level))
+mutex_term scope name (level ∷ rest) = followed_by rest (created_term (declared_path name scope) (MutexObject level))
 
 abbrev pub alias_term : Path → AbsolutePath → AbsolutePath → ByteRun Flow
 alias_term source scope path = then_run (found source scope) (λ e. then_run (create path (AliasObject e.0)) (λ u. done (Normal false)))
@@ -249,7 +249,7 @@ abbrev pub container_of_code : Walk → AbsolutePath → Code → List ℕ → B
 container_of_code w scope code bytes =
     with_front (package_front bytes)
     (λ content after. followed_by after
-    (with_front (name_front content) (λ name rest. with_front (container_front code rest) (container_term w (place_of name scope)))))
+    (with_front (name_front content) (λ name rest. with_front (container_front code rest) (container_term w (declared_path name scope)))))
 
 -- the region that the name at the front leads to, and the register
 abbrev pub region_named : AbsolutePath → Path → List ℕ → ByteRun (AbsolutePath × List ℕ)
@@ -346,7 +346,7 @@ bank_field_term width w scope content =
 abbrev pub buffer_field_term : Width → Walk → AbsolutePath → FieldForm → List ℕ → ByteRun (Flow × List ℕ)
 buffer_field_term width w scope form bytes =
     then_run (operands w (field_letters form) bytes scope)
-    (λ r. with_front (name_front r.1) (λ name rest. followed_by rest (make_buffer_field width form (place_of name scope) r.0)))
+    (λ r. with_front (name_front r.1) (λ name rest. followed_by rest (make_buffer_field width form (declared_path name scope) r.0)))
 
 -- a test, and then the terms that it guards
 abbrev pub if_term : Width → Walk → AbsolutePath → List ℕ → ByteRun Flow
@@ -383,17 +383,17 @@ module _ (width : Width) (turns : ℕ) (call : AbsolutePath → List Value → B
   term_of_code w due scope VarPackageCode bytes =
       with_front (package_front bytes) (λ content after. followed_by after (sized_package width w scope content))
   term_of_code w due scope CondRefOfCode bytes = cond_ref_of_term width w scope bytes
-  term_of_code w due scope NameCode bytes = with_front (name_front bytes) (λ name rest. name_term w scope (place_of name scope) rest)
+  term_of_code w due scope NameCode bytes = with_front (name_front bytes) (λ name rest. name_term w scope (declared_path name scope) rest)
   term_of_code w due scope MethodCode bytes =
       with_front (package_front bytes)
-      (λ content after. followed_by after (with_front (name_front content) (λ name rest. method_term (place_of name scope) rest)))
+      (λ content after. followed_by after (with_front (name_front content) (λ name rest. method_term (declared_path name scope) rest)))
   term_of_code w due scope MutexCode bytes = with_front (name_front bytes) (mutex_term scope)
   term_of_code w due scope EventCode bytes =
-      with_front (name_front bytes) (λ name rest. followed_by rest (created_term (place_of name scope) EventObject))
+      with_front (name_front bytes) (λ name rest. followed_by rest (created_term (declared_path name scope) EventObject))
   term_of_code w due scope ReturnCode bytes = then_run (operand w bytes scope) (λ r. done (Return r.0, r.1))
   term_of_code w due scope AliasCode bytes =
       with_front (name_front bytes)
-      (λ source rest. with_front (name_front rest) (λ name after. followed_by after (alias_term source scope (place_of name scope))))
+      (λ source rest. with_front (name_front rest) (λ name after. followed_by after (alias_term source scope (declared_path name scope))))
   term_of_code w due scope ExternalCode bytes = with_front (name_front bytes) (λ name rest. external_term rest)
   term_of_code w due scope ScopeCode bytes =
       with_front (package_front bytes)
@@ -408,7 +408,7 @@ module _ (width : Width) (turns : ℕ) (call : AbsolutePath → List Value → B
   term_of_code w due scope BreakCode bytes = done (Break, bytes)
   term_of_code w due scope ContinueCode bytes = done (Continue, bytes)
   term_of_code w due scope OperationRegionCode bytes =
-      with_front (name_front bytes) (λ name rest. region_term width w scope (place_of name scope) rest)
+      with_front (name_front bytes) (λ name rest. region_term width w scope (declared_path name scope) rest)
   term_of_code w due scope FieldCode bytes =
       with_front (package_front bytes) (λ content after. followed_by after (field_term width scope content))
   term_of_code w due scope IndexFieldCode bytes =

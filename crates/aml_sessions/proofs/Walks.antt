@@ -25,14 +25,16 @@ use Rattle.acpi_state.specs.FieldUnits.{InRegion, InBank, BehindIndex}
 use Rattle.acpi_state.specs.FieldActs.{region_letters, field_letters, make_buffer_field}
 use Rattle.acpi_state.specs.Forms.{buffer_of, package_of, slot_here, if_data, cond_ref_of}
 use Rattle.acpi_state.proofs.Readings.{Any, EndsExpression, same_stop}
-use Rattle.asl_tree.specs.Names.{is_known, place_of, denoted}
+use Rattle.asl_tree.specs.Names.{is_known, declared_path, denoted}
 use Rattle.asl_tree.specs.declared.term.Literal.{Literal}
-use Rattle.asl_tree.specs.Tree.{Tree, Integer, Constant, String, InSlot, Debug, Omitted, Raw, Use, Call, Apply, Buffer, Package, VarPackage, CondRefOf, Return, Name, Alias, External, Method, Mutex, Event, Container', Scope, Fill, Misshapen, Operated, Assigned, AssignedBy, Trees, no_trees, tree, count, OperationRegion, Field, IndexField, BankField, CreateField, If, ElseIf, Else, While, Break, Continue, Item, Switch, Case, Default, For, Print}
+use Rattle.asl_tree.specs.Tree.{Tree, Integer, Constant, String, InSlot, Debug, Omitted, Raw, Use, Call, Apply, Buffer, Package, VarPackage, CondRefOf, Return, Name, Alias, External, Method, Mutex, Event, Container', Scope, Fill, Misshapen}
+use Rattle.asl_tree.specs.Tree.{Operated, Assigned, AssignedBy, Trees, no_trees, tree, count, OperationRegion, Field, IndexField, BankField, CreateField, If, ElseIf, Else, While, Break, Continue, Item, Switch, Case, Default, For, Print}
 use Rattle.asl_meaning.specs.Meaning as S
 use Rattle.asl_meaning.specs.Meaning.{SourceRun, spot_form}
 use Rattle.asl_tree.specs.declared.path.Path.{Path}
 use Rattle.aml_code.specs.Fronts.{name_front, number_front, begins_name, Front}
-use Rattle.aml_meaning.specs.Codes.{Code, PlainCode, SlotCode, DebugCode, OmittedCode, StringCode, BufferCode, PackageCode, VarPackageCode, CondRefOfCode, NameCode, AliasCode, ScopeCode, MethodCode, ExternalCode, MutexCode, EventCode, ReturnCode, DeviceCode, ThermalZoneCode, PowerResourceCode, ProcessorCode, code_bytes, slot_front, HasOwnCode, OperationRegionCode, FieldCode, IndexFieldCode, BankFieldCode, CreateFieldCode, IfCode, ElseCode, WhileCode, BreakCode, ContinueCode}
+use Rattle.aml_meaning.specs.Codes.{Code, PlainCode, SlotCode, DebugCode, OmittedCode, StringCode, BufferCode, PackageCode, VarPackageCode, CondRefOfCode, NameCode, AliasCode, ScopeCode, MethodCode, ExternalCode, MutexCode, EventCode, ReturnCode, DeviceCode}
+use Rattle.aml_meaning.specs.Codes.{ThermalZoneCode, PowerResourceCode, ProcessorCode, code_bytes, slot_front, HasOwnCode, OperationRegionCode, FieldCode, IndexFieldCode, BankFieldCode, CreateFieldCode, IfCode, ElseCode, WhileCode, BreakCode, ContinueCode}
 use Rattle.aml_code.specs.Encoding.{integer_bytes, name_bytes, package_length_bytes, packed}
 use Rattle.aml_meaning.specs.Encoded.{literal_bytes, container_code, container_bytes, parameter_count, encoded, encoded_all, field_bytes}
 use Rattle.aml_meaning.specs.ByteMeaning as B
@@ -337,9 +339,9 @@ module _ (given : Setting) (turns : ℕ) (call : AbsolutePath → List Value →
   agree_element (Use at name) scope n rest ready h =
       agree_to (as_bytes given)
       (lead_step name rest (B.element_name given.width scope) _ ready.used
-      ∙ ap (λ b. followed_by rest (if b then then_run (B.find name scope) (λ path. done (Reference (Named path))) else done (Reference (Named (place_of name scope))))) ready.single)
-      (agree_to_left (as_bytes given) (ap (λ b. done (Reference (Named (if b then choose (denoted (is_known given.known) name scope) (place_of name scope) (λ path. path) else place_of name scope)))) ready.single)
-      (agree_done (as_bytes given) Any (λ v. (v, rest)) (Reference (Named (place_of name scope))) tt))
+      ∙ ap (λ b. followed_by rest (if b then then_run (B.find name scope) (λ path. done (Reference (Named path))) else done (Reference (Named (declared_path name scope))))) ready.single)
+      (agree_to_left (as_bytes given) (ap (λ b. done (Reference (Named (if b then choose (denoted (is_known given.known) name scope) (declared_path name scope) (λ path. path) else declared_path name scope)))) ready.single)
+      (agree_done (as_bytes given) Any (λ v. (v, rest)) (Reference (Named (declared_path name scope))) tt))
   agree_element (Integer number) scope n rest ready h = element_other (Integer number) scope n rest ready.0 (h refl ready.1)
   agree_element (Constant literal) scope n rest ready h = element_other (Constant literal) scope n rest ready.0 (h refl ready.1)
   agree_element (String text) scope n rest ready h = element_other (String text) scope n rest ready.0 (h refl ready.1)
@@ -432,26 +434,26 @@ module _ (given : Setting) (turns : ℕ) (call : AbsolutePath → List Value →
         (agree_then (as_bytes given) Any (λ f. (f, rest)) _ (agree_operand given (is_expression value) (R value scope false) (W n) (E given value ++ rest) rest scope ready.0 (agree_run value scope false n rest ready.1 (omega (arith, le)) (omega (arith, fits))))
         (λ v any. agree_done (as_bytes given) Any (λ f. (f, rest)) (O.Return v) tt))
     agree_run (Name at name value) scope due (suc n) rest ready le fits =
-        let path = place_of name scope in
+        let path = declared_path name scope in
         agree_to (as_bytes given)
         (code_step given.width turns call' n NameCode ((name_bytes name ++ E given value) ++ rest) scope due tt tt
         ∙ ap (λ bs. B.term_of_code given.width turns call' (W n) due scope NameCode bs) (append_assoc (name_bytes name) (E given value) rest)
-        ∙ name_step name (E given value ++ rest) (λ name rest. B.name_term (W n) scope (place_of name scope) rest) ready.0.written)
+        ∙ name_step name (E given value ++ rest) (λ name rest. B.name_term (W n) scope (declared_path name scope) rest) ready.0.written)
         (agree_then (as_bytes given) Any (λ f. (f, rest)) _ (agree_operand given (is_expression value) (R value scope false) (W n) (E given value ++ rest) rest scope ready.1 (agree_run value scope false n rest ready.2 (omega (arith, le, length-append (name_bytes name) (E given value))) (omega (arith, fits))))
         (λ v any. agree_followed given rest
         (agree_then (as_bytes given) Any (λ f. f) _ (agree_create (as_bytes given) path DataObject ready.0.is)
         (λ u any. agree_then (as_bytes given) Any (λ f. f) (λ u. done (Normal false)) (agree_act (as_bytes given) (write_named path v))
         (λ u any. agree_done (as_bytes given) Any (λ f. f) (Normal false) tt)))))
     agree_run (Method at name flags body) scope due (suc n) rest ready le fits =
-        let path = place_of name scope in
+        let path = declared_path name scope in
         let content = name_bytes name ++ (flags % 256) ∷ EA given body in
         let small : flags % 256 ≡ flags = omega (arith, ready.1) in
         let inside : length content ≤ n = omega (arith, le, length-append (package_length_bytes (length content)) content) in
         let kept : length (EA given body) + 4 < 2 ^ 28 = omega (arith, inside, fits, length-append (name_bytes name) ((flags % 256) ∷ EA given body)) in
         agree_to (as_bytes given)
         (code_step given.width turns call' n MethodCode (packed content ++ rest) scope due tt tt
-        ∙ package_step content rest (λ content after. followed_by after (with_front (name_front content) (λ name rest. B.method_term (place_of name scope) rest))) (omega (arith, inside, fits))
-        ∙ ap (followed_by rest) (name_step name ((flags % 256) ∷ EA given body) (λ name rest. B.method_term (place_of name scope) rest) ready.0.written)
+        ∙ package_step content rest (λ content after. followed_by after (with_front (name_front content) (λ name rest. B.method_term (declared_path name scope) rest))) (omega (arith, inside, fits))
+        ∙ ap (followed_by rest) (name_step name ((flags % 256) ∷ EA given body) (λ name rest. B.method_term (declared_path name scope) rest) ready.0.written)
         ∙ ap (λ f. followed_by rest (B.method_term path (f ∷ EA given body))) small)
         (agree_followed given rest
         (agree_then (as_bytes given) Any (λ f. f) _ (agree_create (as_bytes given) path (MethodObject flags) ready.0.is)
@@ -463,20 +465,20 @@ module _ (given : Setting) (turns : ℕ) (call : AbsolutePath → List Value →
         (code_step given.width turns call' n MutexCode ((name_bytes name ++ (level % 256) ∷ []) ++ rest) scope due tt tt
         ∙ ap (λ bs. B.term_of_code given.width turns call' (W n) due scope MutexCode bs) (append_assoc (name_bytes name) ((level % 256) ∷ []) rest)
         ∙ name_step name ((level % 256) ∷ rest) (B.mutex_term scope) ready.0.written
-        ∙ ap (λ k. followed_by rest (B.created_term (place_of name scope) (MutexObject k))) small)
-        (agree_followed given rest (agree_created (place_of name scope) (MutexObject level) ready.0.is))
+        ∙ ap (λ k. followed_by rest (B.created_term (declared_path name scope) (MutexObject k))) small)
+        (agree_followed given rest (agree_created (declared_path name scope) (MutexObject level) ready.0.is))
     agree_run (Event at name) scope due (suc n) rest ready le fits =
         agree_to (as_bytes given)
         (code_step given.width turns call' n EventCode (name_bytes name ++ rest) scope due tt tt
-        ∙ name_step name rest (λ name rest. followed_by rest (B.created_term (place_of name scope) EventObject)) ready.written)
-        (agree_followed given rest (agree_created (place_of name scope) EventObject ready.is))
+        ∙ name_step name rest (λ name rest. followed_by rest (B.created_term (declared_path name scope) EventObject)) ready.written)
+        (agree_followed given rest (agree_created (declared_path name scope) EventObject ready.is))
     agree_run (Alias from source at name) scope due (suc n) rest ready le fits =
-        let path = place_of name scope in
+        let path = declared_path name scope in
         agree_to (as_bytes given)
         (code_step given.width turns call' n AliasCode ((name_bytes source ++ name_bytes name) ++ rest) scope due tt tt
         ∙ ap (λ bs. B.term_of_code given.width turns call' (W n) due scope AliasCode bs) (append_assoc (name_bytes source) (name_bytes name) rest)
-        ∙ name_step source (name_bytes name ++ rest) (λ source rest. with_front (name_front rest) (λ name after. followed_by after (B.alias_term source scope (place_of name scope)))) ready.1.used.is_name
-        ∙ name_step name rest (λ name after. followed_by after (B.alias_term source scope (place_of name scope))) ready.2.written)
+        ∙ name_step source (name_bytes name ++ rest) (λ source rest. with_front (name_front rest) (λ name after. followed_by after (B.alias_term source scope (declared_path name scope)))) ready.1.used.is_name
+        ∙ name_step name rest (λ name after. followed_by after (B.alias_term source scope (declared_path name scope))) ready.2.written)
         (agree_followed given rest
         (agree_then (as_bytes given) Any (λ f. f) _ (agree_found given source scope ready.0 ready.1)
         (λ e is. agree_then (as_bytes given) Any (λ f. f) (λ u. done (Normal false)) (agree_create (as_bytes given) path (AliasObject e.0) (alias_leads given.known path ready.0 e ready.2.is is))
@@ -489,7 +491,7 @@ module _ (given : Setting) (turns : ℕ) (call : AbsolutePath → List Value →
         ∙ name_step name (more ++ rest) (λ name rest. B.external_term rest) ready)
         (agree_done (as_bytes given) Any (λ f. (f, rest)) (Normal false) tt)
     agree_run (Container' kind at name body) scope due (suc n) rest ready le fits =
-        let path = place_of name scope in
+        let path = declared_path name scope in
         let more = container_bytes kind ++ EA given body in
         let content = name_bytes name ++ more in
         let inside : length content ≤ n = omega (arith, le, container_some kind, length-append (code_bytes (container_code kind)) (packed content), length-append (package_length_bytes (length content)) content) in
@@ -497,8 +499,8 @@ module _ (given : Setting) (turns : ℕ) (call : AbsolutePath → List Value →
         agree_to (as_bytes given)
         (ap (λ bs. W (suc n) bs scope due) (append_assoc (code_bytes (container_code kind)) (packed content) rest)
         ∙ container_step given.width turns call' n kind (packed content ++ rest) scope due
-        ∙ package_step content rest (λ content after. followed_by after (with_front (name_front content) (λ name rest. with_front (B.container_front (container_code kind) rest) (B.container_term (W n) (place_of name scope))))) (omega (arith, inside, fits))
-        ∙ ap (followed_by rest) (name_step name more (λ name rest. with_front (B.container_front (container_code kind) rest) (B.container_term (W n) (place_of name scope))) ready.0.written)
+        ∙ package_step content rest (λ content after. followed_by after (with_front (name_front content) (λ name rest. with_front (B.container_front (container_code kind) rest) (B.container_term (W n) (declared_path name scope))))) (omega (arith, inside, fits))
+        ∙ ap (followed_by rest) (name_step name more (λ name rest. with_front (B.container_front (container_code kind) rest) (B.container_term (W n) (declared_path name scope))) ready.0.written)
         ∙ ap (λ o. followed_by rest (with_front o (B.container_term (W n) path))) (container_reads kind ready.1 (EA given body)))
         (agree_followed given rest
         (agree_then (as_bytes given) Any (λ f. f) _ (agree_create (as_bytes given) path (ContainerObject kind) ready.0.is)
@@ -557,12 +559,12 @@ module _ (given : Setting) (turns : ℕ) (call : AbsolutePath → List Value →
     agree_run Continue scope due (suc n) rest ready le fits =
         agree_to (as_bytes given) (code_step given.width turns call' n ContinueCode rest scope due tt tt) (agree_done (as_bytes given) Any (λ f. (f, rest)) O.Continue tt)
     agree_run (OperationRegion at name space args) scope due (suc n) rest ready le fits =
-        let path = place_of name scope in
+        let path = declared_path name scope in
         let small : space % 256 ≡ space = omega (arith, ready.1) in
         agree_to (as_bytes given)
         (code_step given.width turns call' n OperationRegionCode ((name_bytes name ++ (space % 256) ∷ EA given args) ++ rest) scope due tt tt
         ∙ ap (λ bs. B.term_of_code given.width turns call' (W n) due scope OperationRegionCode bs) (append_assoc (name_bytes name) ((space % 256) ∷ EA given args) rest)
-        ∙ name_step name ((space % 256) ∷ (EA given args ++ rest)) (λ name rest. B.region_term given.width (W n) scope (place_of name scope) rest) ready.0.written
+        ∙ name_step name ((space % 256) ∷ (EA given args ++ rest)) (λ name rest. B.region_term given.width (W n) scope (declared_path name scope) rest) ready.0.written
         ∙ ap (λ k. B.region_term given.width (W n) scope path (k ∷ (EA given args ++ rest))) small)
         (agree_then (as_bytes given) Any (λ f. (f, rest)) _ (agree_operands region_letters args scope n rest ready.2 (omega (arith, le, length-append (name_bytes name) ((space % 256) ∷ EA given args))) (omega (arith, fits)))
         (λ os any. agree_followed given rest (agree_region (as_bytes given) given.width path space os (λ offset size. ready.0.is))))
@@ -603,14 +605,14 @@ module _ (given : Setting) (turns : ℕ) (call : AbsolutePath → List Value →
         (agree_run value scope false n list ready.3 (omega (arith, inside, length-append (name_bytes region) (name_bytes bank ++ later), length-append (name_bytes bank) later, length-append (E given value) list)) (omega (arith, fits)))))
         (λ k any. agree_field_list given (InBank r b k) flags scope items ready.4 ready.5 ready.6 (omega (arith, inside, fits, length-append (name_bytes region) (name_bytes bank ++ later), length-append (name_bytes bank) later, length-append (E given value) list)))))))
     agree_run (CreateField form args at name) scope due (suc n) rest ready le fits =
-        let path = place_of name scope in
+        let path = declared_path name scope in
         let whole = length-append (EA given args) (name_bytes name) in
         agree_to (as_bytes given)
         (ap (λ bs. W (suc n) bs scope due) (append_assoc (code_bytes (CreateFieldCode form)) (EA given args ++ name_bytes name) rest)
         ∙ code_step given.width turns call' n (CreateFieldCode form) ((EA given args ++ name_bytes name) ++ rest) scope due tt tt
         ∙ ap (B.buffer_field_term given.width (W n) scope form) (append_assoc (EA given args) (name_bytes name) rest))
         (agree_then (as_bytes given) Any (λ f. (f, rest)) _ (agree_operands (field_letters form) args scope n (name_bytes name ++ rest) ready.0 (omega (arith, le, whole, code_some (CreateFieldCode form), length-append (code_bytes (CreateFieldCode form)) (EA given args ++ name_bytes name))) (omega (arith, fits)))
-        (λ os any. agree_to (as_bytes given) (name_step name rest (λ name rest. followed_by rest (make_buffer_field given.width form (place_of name scope) os)) ready.1.written)
+        (λ os any. agree_to (as_bytes given) (name_step name rest (λ name rest. followed_by rest (make_buffer_field given.width form (declared_path name scope) os)) ready.1.written)
         (agree_followed given rest (agree_buffer_field (as_bytes given) given.width form path os (λ field. ready.1.is)))))
     agree_run Omitted scope due (suc n) rest ready le fits = absurd ready
     agree_run (Raw size number) scope due (suc n) rest ready le fits = absurd ready

@@ -7,7 +7,8 @@ use Rattle.acpi_state.specs.Objects.{Object, DataObject, MethodObject, MutexObje
 use Rattle.acpi_state.specs.Objects.{PowerResource, Processor, operand_count, is_method, RegionObject, UnitObject, BufferFieldObject}
 use Rattle.asl_tree.specs.declared.path.Path.{Path}
 use Rattle.asl_tree.specs.declared.program.Block.{Block}
-use Rattle.asl_tree.specs.Names.{Kind, Is, AliasTo, Known, is_known, kind_at, end_of, is_searched, place_of, search_path, candidates}
+use Rattle.asl_tree.specs.Names.{NameKind, Is, AliasTo, Known, is_known, kind_at, end_of}
+use Rattle.asl_tree.specs.Names.{is_searched, declared_path, search_path, candidates}
 use Rattle.asl_meaning.specs.Meaning.{SpotForm, OfResult, OfInside, NoSpot, spot_form}
 use Rattle.acpi_state.specs.FieldUnits.{OfOtherTable, OverItsOwn}
 use Rattle.acpi_state.specs.FieldActs.{region_letters, field_letters}
@@ -139,9 +140,9 @@ module _ (known : Known) where
   EndsIn P path = (n : ℕ) (target : AbsolutePath) (object : Object) → end_of known n path ≡ Some (target, object) → P object
 
   -- a declared path that can be written, and is known as this
-  pub record Declares (name : Path) (scope : AbsolutePath) (kind : Kind) : Type 0 where
+  pub record Declares (name : Path) (scope : AbsolutePath) (kind : NameKind) : Type 0 where
     pub written : IsName name
-    pub is : kind_at known (place_of name scope) ≡ Some kind
+    pub is : kind_at known (declared_path name scope) ≡ Some kind
 
   abbrev pub IsFound : Path → AbsolutePath → Type 0
   IsFound name scope = (path : AbsolutePath) × Denotes name scope path
@@ -212,11 +213,11 @@ module _ (known : Known) where
         (path : AbsolutePath) × Denotes known source scope path × Declares known name scope (AliasTo (Some path))
     IsReady (External here at name type parameters) scope = IsName name
     IsReady (Method at name flags body) scope =
-        Declares known name scope (Is (MethodObject flags)) × (flags < 256) × AreReady body (place_of name scope)
+        Declares known name scope (Is (MethodObject flags)) × (flags < 256) × AreReady body (declared_path name scope)
     IsReady (Mutex at name level) scope = Declares known name scope (Is (MutexObject level)) × (level < 256)
     IsReady (Event at name) scope = Declares known name scope (Is EventObject)
     IsReady (Container' kind at name body) scope =
-        Declares known name scope (Is (ContainerObject kind)) × FitsContainer kind × AreReady body (place_of name scope)
+        Declares known name scope (Is (ContainerObject kind)) × FitsContainer kind × AreReady body (declared_path name scope)
     IsReady (Scope here at name body) scope = (path : AbsolutePath) × Denotes known name scope path × AreReady body path
     IsReady (If test body) scope = (is_expression test ≡ true) × IsReady test scope × AreReady body scope
     IsReady (Else body) scope = AreReady body scope

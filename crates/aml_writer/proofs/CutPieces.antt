@@ -22,17 +22,17 @@ use Rattle.aml_code.specs.Header.{fields_of}
 use Rattle.aml_meaning.specs.Codes.{ScopeCode, IfCode, ElseCode, WhileCode}
 use Rattle.aml_meaning.specs.Encoded.{encoded, encoded_all}
 use Rattle.aml_sessions.specs.Ready.{AreReady}
-use Rattle.aml_writer.specs.declared.style.IntegerStyle.{IntegerStyle}
-use Rattle.aml_writer.specs.Styles.{style_of}
-use Rattle.aml_writer.specs.Codes.{letters_of}
-use Rattle.aml_writer.specs.TermBytes.{term_bytes, row_bytes}
-use Rattle.aml_writer.specs.Pieces.{Part, piece_at, put_before, is_if_op, is_if, row_begins_with_if, opens, head_part, form_pieces, term_pieces, row_pieces, nodes_pieces, table_pieces}
+use Rattle.aml_sizes.specs.declared.style.IntegerStyle.{IntegerStyle}
+use Rattle.aml_sizes.specs.Styles.{style_of}
+use Rattle.aml_sizes.specs.Codes.{letters_of}
+use Rattle.aml_sizes.specs.TermBytes.{term_bytes, row_bytes}
+use Rattle.aml_sizes.specs.Pieces.{CutBytes, piece_at, put_before, is_if_op, is_if, row_begins_with_if, opens, head_part, form_pieces, term_pieces, row_pieces, nodes_pieces, table_pieces}
 use Rattle.aml_writer.specs.Cuts.{opening, if_begins, plain_part, cut, cut_all, header_of, table_parts, pieces_with, ArePieces}
-use Rattle.aml_writer.proofs.Forms.{IsWhole, AreWhole, trees_bytes, all_is}
-use Rattle.aml_writer.proofs.Tables.{BodyWhole, all_whole, form_whole, written, row_written, ready_bytes}
+use Rattle.aml_sizes.proofs.Forms.{IsWhole, AreWhole, trees_bytes, all_is}
+use Rattle.aml_sizes.proofs.Encodings.{BodyWhole, all_whole, form_whole, written, row_written, ready_bytes}
 use Rattle.aml_writer.proofs.Cuts.{holds, alone, form_holds}
-use Rattle.aml_writer.proofs.Joined.{Leads, leads_some, some_more, opens_none, put_more}
-use Rattle.aml_writer.proofs.NodePieces.{term_some}
+use Rattle.aml_sizes.proofs.Joined.{Leads, leads_some, some_more, opens_none, put_more}
+use Rattle.aml_sizes.proofs.NodePieces.{term_some}
 
 -- the body of a form that holds a list of terms is whole
 body_whole : (op : Op) (body : Trees) → holds_terms op ≡ true → BodyWhole op body → AreWhole body
@@ -43,7 +43,7 @@ body_whole (Op.Declaration Declaration.BankField) body e h = absurd (grind arith
 body_whole op body e h = h
 
 module _ (style : IntegerStyle) where
-  abbrev parts : Trees → List Part
+  abbrev parts : Trees → List CutBytes
   parts body = cut_all style.width style.short body
 
   -- what stands before the terms of a form
@@ -108,11 +108,11 @@ row_begins_is (D.more_of-Node id place term rest) h = begins_is (record { id = i
 
 -- ---- pieces that have these places and these parts, before others
 
-abbrev Fit : List Line → List Place → List Part → List Piece → Type 0
+abbrev Fit : List Line → List Place → List CutBytes → List Piece → Type 0
 Fit lines places parts pieces =
-    (length places ≡ length parts) × ((ps : List Place) (bs : List Part) → pieces_with lines (places ++ ps) (parts ++ bs) ≡ pieces ++ pieces_with lines ps bs)
+    (length places ≡ length parts) × ((ps : List Place) (bs : List CutBytes) → pieces_with lines (places ++ ps) (parts ++ bs) ≡ pieces ++ pieces_with lines ps bs)
 
-fit-append : (lines : List Line) (places : List Place) (parts : List Part) (pieces : List Piece) (places' : List Place) (parts' : List Part) (pieces' : List Piece) → Fit lines places parts pieces → Fit lines places' parts' pieces' → Fit lines (places ++ places') (parts ++ parts') (pieces ++ pieces')
+fit-append : (lines : List Line) (places : List Place) (parts : List CutBytes) (pieces : List Piece) (places' : List Place) (parts' : List CutBytes) (pieces' : List Piece) → Fit lines places parts pieces → Fit lines places' parts' pieces' → Fit lines (places ++ places') (parts ++ parts') (pieces ++ pieces')
 fit-append lines places parts pieces places' parts' pieces' h k = (
   length-append places places' ∙ ap (λ n. n + length places') h.0 ∙ ap (λ n. length parts + n) k.0 ∙ sym (length-append parts parts'),
   λ ps bs.
@@ -123,11 +123,11 @@ fit-append lines places parts pieces places' parts' pieces' h k = (
       ∙ sym (append_assoc pieces pieces' (pieces_with lines ps bs)),
 )
 
-fit_is : (lines : List Line) (places : List Place) (parts : List Part) (pieces : List Piece) → Fit lines places parts pieces → pieces ≡ pieces_with lines places parts
+fit_is : (lines : List Line) (places : List Place) (parts : List CutBytes) (pieces : List Piece) → Fit lines places parts pieces → pieces ≡ pieces_with lines places parts
 fit_is lines places parts pieces h =
     sym (append-nil pieces) ∙ sym (h.1 [] []) ∙ ap (λ at. pieces_with lines at (parts ++ [])) (append-nil places) ∙ ap (pieces_with lines places) (append-nil parts)
 
-put_fit : (lines : List Line) (place : Place) (part : Part) (places : List Place) (parts : List Part) (inner : List Piece) → Fit lines places parts inner → Leads part.opens inner → Fit lines (place ∷ places) (part ∷ parts) (put_before lines place part inner)
+put_fit : (lines : List Line) (place : Place) (part : CutBytes) (places : List Place) (parts : List CutBytes) (inner : List Piece) → Fit lines places parts inner → Leads part.opens inner → Fit lines (place ∷ places) (part ∷ parts) (put_before lines place part inner)
 put_fit lines place part places parts inner h l = (ap suc h.0, λ ps bs. ap (put_before lines place part) (h.1 ps bs) ∙ put_more lines place part inner (pieces_with lines ps bs) l)
 
 one_fit : (lines : List Line) (place : Place) (bytes : List ℕ) → Fit lines (place ∷ []) (plain_part bytes ∷ []) (piece_at lines place bytes ∷ [])
@@ -137,7 +137,7 @@ module _ (style : IntegerStyle) (lines : List Line) where
   abbrev content : Trees → List ℕ
   content body = encoded_all style.width style.short body
 
-  form_fit : (place : Place) (at : At) (op : Op) (args body : Trees) (c : Bool) → holds_terms op ≡ c → IsWhole (form at op args body) → (begins : Bool) (head : Part) (whole : List ℕ) (places : List Place) (inner : List Piece)
+  form_fit : (place : Place) (at : At) (op : Op) (args body : Trees) (c : Bool) → holds_terms op ≡ c → IsWhole (form at op args body) → (begins : Bool) (head : CutBytes) (whole : List ℕ) (places : List Place) (inner : List Piece)
       → (AreWhole body → Fit lines places (cut_all style.width style.short body) inner) → (AreWhole args → AreWhole body → head ≡ head_part op (trees_bytes style (letters_of op) args) (length (content body)) begins)
       → (AreWhole body → if_begins body ≡ begins) → Leads head.opens inner → whole ≡ encoded style.width style.short (form at op args body)
       → Fit lines (place ∷ (if c then places else [])) (cut style.width style.short (form at op args body)) (form_pieces style lines c place head whole inner)

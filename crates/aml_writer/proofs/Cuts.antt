@@ -21,7 +21,7 @@ use Rattle.aml_code.specs.Encoding.{package_length_bytes, packed, name_bytes}
 use Rattle.aml_code.specs.Header.{HeaderFields, table_bytes}
 use Rattle.aml_meaning.specs.Codes.{Code, MethodCode, ScopeCode, IfCode, ElseCode, WhileCode, code_bytes}
 use Rattle.aml_meaning.specs.Encoded.{container_code, container_bytes, encoded, encoded_all}
-use Rattle.aml_writer.specs.Pieces.{Part}
+use Rattle.aml_sizes.specs.Pieces.{CutBytes}
 use Rattle.aml_writer.specs.Cuts.{opening, plain_part, cut, cut_all, header_of, table_parts}
 
 -- whether a term holds a list of terms
@@ -37,11 +37,11 @@ holds _ = false
 -- ---- the parts are the whole
 
 -- the bytes of parts, one after another
-abbrev pub joined_parts : List Part → List ℕ
+abbrev pub joined_parts : List CutBytes → List ℕ
 joined_parts [] = []
 joined_parts (part ∷ parts) = part.bytes ++ joined_parts parts
 
-parts-append : (xs ys : List Part) → joined_parts (xs ++ ys) ≡ joined_parts xs ++ joined_parts ys
+parts-append : (xs ys : List CutBytes) → joined_parts (xs ++ ys) ≡ joined_parts xs ++ joined_parts ys
 parts-append [] ys = refl
 parts-append (x ∷ xs) ys = ap (λ bs. x.bytes ++ bs) (parts-append xs ys) ∙ sym (append_assoc x.bytes (joined_parts xs) (joined_parts ys))
 

@@ -8,13 +8,13 @@ use Rattle.asl_tree.specs.declared.term.Node.{Node}
 use Rattle.asl_tree.specs.declared.term.Term.{Term}
 use Rattle.asl_tree.specs.declared.term.Term as D
 use Rattle.term_places.specs.Places.{holds_terms}
-use Rattle.aml_writer.specs.declared.style.IntegerStyle.{IntegerStyle}
-use Rattle.aml_writer.specs.Codes.{letters_of}
-use Rattle.aml_writer.specs.TermBytes.{head_bytes, term_bytes, nodes_bytes}
-use Rattle.aml_writer.specs.Pieces.{is_container, else_if_bytes, container_pieces, term_pieces, nodes_pieces}
-use Rattle.aml_writer.specs.Rooms.{bytes_of, nodes_parts, own_parts, else_if_parts, else_if_size, EndsIn, Fills}
-use Rattle.aml_writer.proofs.NodePieces.{pieces_more, container_pieces_of, whole_of}
-use Rattle.aml_writer.proofs.Rooms.{ends_last, ends_first, none_filled, both_filled}
+use Rattle.aml_sizes.specs.declared.style.IntegerStyle.{IntegerStyle}
+use Rattle.aml_sizes.specs.Codes.{letters_of}
+use Rattle.aml_sizes.specs.TermBytes.{head_bytes, term_bytes, nodes_bytes}
+use Rattle.aml_sizes.specs.Pieces.{is_container, else_if_bytes, container_pieces, term_pieces, nodes_pieces}
+use Rattle.aml_writer.specs.Fills.{bytes_of, nodes_parts, own_parts, else_if_parts, else_if_size, EndsIn, Fills}
+use Rattle.aml_sizes.proofs.NodePieces.{pieces_more, container_pieces_of, whole_of}
+use Rattle.aml_writer.proofs.Fills.{ends_last, ends_first, none_filled, both_filled}
 
 module _ (style : IntegerStyle) where
   abbrev node_parts : Node → List (List ℕ)

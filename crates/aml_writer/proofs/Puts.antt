@@ -1,14 +1,13 @@
 -- Bytes that are put before others.
-use Rattle.std.proofs.Common.{◌≡◌, ℕ, ◌+◌, ◌-◌, ◌≤◌, false, List, [], ◌∷◌, ◌++◌, length, take, drop, set, replicate, sym, ap, ◌∙◌, arith, append_assoc, length-append}
+use Rattle.std.proofs.Common.{◌≡◌, ℕ, ◌+◌, ◌-◌, ◌≤◌, false, List, [], ◌∷◌, ◌++◌, length, take, drop, set, replicate, sym, ap, ◌∙◌, arith, append_assoc}
 use Rattle.std.specs.Prelude.{nat_le, if◌then◌else◌}
 use Rattle.std.proofs.lemmas.List.{drop_at, drop-drop, length-take-le, drop-set}
 use Rattle.byteorder.specs.Endian.{little_bytes}
 use Rattle.byteorder.proofs.Bytes.{take-bytes_low_first}
-use Rattle.byteorder.specs.Numbers.{length-bytes_low_first}
 use Rattle.acpi_values.specs.Paths.{NameSeg}
 use Rattle.asl_tree.specs.declared.path.Path.{Path}
 use Rattle.aml_code.specs.Encoding.{prefix_bytes, name_path_bytes}
-use Rattle.aml_writer.specs.Items.{written_name}
+use Rattle.aml_sizes.specs.Items.{written_name}
 
 pub byte_put : (out : List ℕ) (to at byte : ℕ) → to + 1 ≡ at → at ≤ length out → drop to (set out to byte) ≡ byte ∷ drop at out
 byte_put out to at byte e le = drop-set out to byte (omega (arith, e, le)) ∙ ap (λ n. byte ∷ drop n out) e
@@ -27,13 +26,6 @@ named out bytes to at e le =
 -- the first bytes of a number in eight
 pub low_bytes : (count number : ℕ) → count ≤ 8 → take count (little_bytes 8 number) ≡ little_bytes count number
 low_bytes count number le = take-bytes_low_first 0 8 count number le
-
-pub low_length : (count number : ℕ) → length (little_bytes count number) ≡ count
-low_length count number = length-bytes_low_first 0 count number
-
--- a body of which so many bytes were put
-pub body_put : (body out out1 : List ℕ) → out1 ≡ body ++ out → length out1 - length out ≡ length body
-body_put body out out1 e = let l : length out1 ≡ length body + length out = ap length e ∙ length-append body out in omega (arith, l)
 
 -- how many bytes stand before a place
 pub before_it : (to size at : ℕ) → to + size ≡ at → at - to ≡ size

@@ -17,7 +17,7 @@ use Rattle.aml_code.specs.Header.{HeaderFields, header_length, header_with, chec
 use Rattle.aml_meaning.specs.Codes.{Code, MethodCode, ScopeCode, IfCode, ElseCode, WhileCode, code_bytes}
 use Rattle.aml_meaning.specs.Encoded.{container_code, container_bytes, encoded, encoded_all}
 use Rattle.aml_sessions.specs.Ready.{AreReady}
-use Rattle.aml_writer.specs.Pieces.{Part, put_before}
+use Rattle.aml_sizes.specs.Pieces.{CutBytes, put_before}
 
 -- a package up to the terms in it: its opcode, its length and what stands before them
 abbrev pub opening : Width → Bool → Code → List ℕ → Trees → List ℕ
@@ -30,12 +30,12 @@ if_begins (tree (If test body) rest) = true
 if_begins terms = false
 
 -- bytes that are no Else that begins with an If
-abbrev pub plain_part : List ℕ → Part
+abbrev pub plain_part : List ℕ → CutBytes
 plain_part bytes = record { bytes = bytes; opens = false }
 
 abbrev mutual
   -- the parts of a term
-  pub cut : Width → Bool → Tree → List Part
+  pub cut : Width → Bool → Tree → List CutBytes
   cut width short (Method at name flags body) = plain_part (opening width short MethodCode (name_bytes name ++ (flags % 256) ∷ []) body) ∷
       cut_all width short body
   cut width short (Container' kind at name body) =
@@ -46,7 +46,7 @@ abbrev mutual
   cut width short (While test body) = plain_part (opening width short WhileCode (encoded width short test) body) ∷ cut_all width short body
   cut width short term = plain_part (encoded width short term) ∷ []
 
-  pub cut_all : Width → Bool → Trees → List Part
+  pub cut_all : Width → Bool → Trees → List CutBytes
   cut_all width short no_trees = []
   cut_all width short (tree term terms) = cut width short term ++ cut_all width short terms
 
@@ -56,17 +56,17 @@ header_of fields content =
     let size = header_length + length content in header_with fields size (checksum_of (header_with fields size 0 ++ content))
 
 -- the header, and then the terms of a core
-abbrev pub table_parts : HeaderFields → Bool → Trees → List Part
+abbrev pub table_parts : HeaderFields → Bool → Trees → List CutBytes
 table_parts fields short core = let width = width_of fields.revision in plain_part (header_of fields (encoded_all width short core)) ∷
     cut_all width short core
 
 -- the pieces of parts that stand at these places
-abbrev pub pieces_with : List Line → List Place → List Part → List Piece
+abbrev pub pieces_with : List Line → List Place → List CutBytes → List Piece
 pieces_with lines (place ∷ places) (part ∷ parts) = put_before lines place part (pieces_with lines places parts)
 pieces_with lines _ _ = []
 
 -- as many places as parts, and the pieces of these
-pub record ArePieces (lines : List Line) (places : List Place) (parts : List Part) (pieces : List Piece) : Type 0 where
+pub record ArePieces (lines : List Line) (places : List Place) (parts : List CutBytes) (pieces : List Piece) : Type 0 where
   pub as_many : length places ≡ length parts
   pub are : pieces ≡ pieces_with lines places parts
 

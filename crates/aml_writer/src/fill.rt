@@ -1,24 +1,22 @@
 //! The bytes of a table, put into the room that was kept for them. No call here can be refused.
 ghost use Rattle.std.specs.Prelude.{true, ◌≡◌, ◌≤◌, ◌<◌, ◌^◌, ◌++◌, ◌+◌, ◌∷◌, [], false, length, drop, set, get_or, map, sum};
 ghost use Rattle.iasl_messages.specs.declared.place.Piece.{Piece};
-ghost use Rattle.aml_code.specs.Header.{header_with, fields_of};
-ghost use Rattle.aml_writer.specs.Styles.{style_of as style_for};
-ghost use Rattle.aml_writer.specs.Codes.{letters_of};
-ghost use Rattle.aml_writer.specs.TermBytes.{head_bytes, term_bytes, nodes_bytes};
-ghost use Rattle.aml_writer.specs.Pieces.{is_container, is_else_if as is_else_if_form, else_if_bytes, container_bytes, container_pieces};
-ghost use Rattle.aml_writer.specs.Pieces.{term_pieces};
-ghost use Rattle.aml_writer.specs.Rooms.{bytes_of, with_bytes, nodes_parts, own_parts, else_if_parts, else_if_size, filled, table_parts_of};
-ghost use Rattle.aml_writer.specs.Rooms.{EndsIn, Fills, HasRoom, header_for};
-ghost use Rattle.aml_writer.specs.Written.{AtBlock};
+ghost use Rattle.aml_sizes.specs.Codes.{letters_of};
+ghost use Rattle.aml_sizes.specs.TermBytes.{head_bytes, term_bytes, nodes_bytes};
+ghost use Rattle.aml_sizes.specs.Pieces.{is_container, is_else_if as is_else_if_form, else_if_bytes, container_bytes, container_pieces};
+ghost use Rattle.aml_sizes.specs.Pieces.{term_pieces};
+ghost use Rattle.aml_writer.specs.Fills.{bytes_of, with_bytes, nodes_parts, own_parts, else_if_parts, else_if_size, filled, table_parts_of};
+ghost use Rattle.aml_writer.specs.Fills.{EndsIn, Fills, HasRoom, header_for};
+ghost use Rattle.aml_sizes.specs.TableSizes.{AtBlock};
 
-use crate::codes::holds_terms;
-use crate::else_if::is_else_if;
-use crate::header::{HEADER_BYTES, completing_byte, header};
+use crate::header::{completing_byte, header};
 use crate::put::put;
-use crate::reserve::Room;
-use crate::space::{FEW, Space, Store};
-use crate::style::{IntegerStyle, style_of};
 use crate::term_bytes::{put_head, put_term};
+use aml_sizes::codes::holds_terms;
+use aml_sizes::else_if::is_else_if;
+use aml_sizes::reserve::Room;
+use aml_sizes::space::{FEW, HEADER_BYTES, Space, Store};
+use aml_sizes::style::{IntegerStyle, style_of};
 use asl_tree::program::{Block, Core};
 use asl_tree::term::{Node, Op, Term};
 use iasl_messages::place::{Piece, Pieces, Place};

@@ -1,8 +1,8 @@
 //! Bytes that are put before others, from the end of a room to its front. The room is a list of bytes, of which those
 //! from a place on are put; each call answers the place from which they are then.
-ghost use Rattle.std.specs.Prelude.{◌≡◌, ◌≤◌, ◌+◌, ◌++◌, ◌∷◌, [], length, drop, take, IfSome};
+ghost use Rattle.std.specs.Prelude.{◌≡◌, ◌≤◌, ◌+◌, ◌++◌, ◌∷◌, length, drop, take, IfSome};
 ghost use Rattle.aml_code.specs.Coded.{coded_bytes};
-ghost use Rattle.aml_writer.specs.TermBytes.{written_name};
+ghost use Rattle.aml_sizes.specs.Items.{written_name};
 
 use aml_code::coded::Coded;
 use aml_code::name::{name_bytes, name_len};

@@ -5,7 +5,7 @@ use Rattle.acpi_values.specs.declared.operator.Plain.{Plain}
 use Rattle.acpi_values.specs.Paths.{AbsolutePath}
 use Rattle.acpi_state.specs.Objects.{MethodObject, ContainerObject, root_objects}
 use Rattle.asl_meaning.specs.Declarations.{As, Declarations, nothing_declared, is_named, scope_path, with_declared, declare, declare_all, declarations, calls, calls_all, called, declared_kinds, external_names, as_known, externals, known_of}
-use Rattle.asl_tree.specs.Names.{place_of, denoted}
+use Rattle.asl_tree.specs.Names.{declared_path, denoted}
 use Rattle.asl_tree.specs.Tree.{Tree, Integer, Constant, Omitted, Call, Apply, Buffer, Package, VarPackage, CondRefOf, Return, Name, Method, Container', Scope, If, ElseIf, Else, While, For, Print, OperationRegion, BankField, CreateField, Operated, Assigned, AssignedBy, Trees, no_trees, tree, count, Switch, Case, Default}
 use Rattle.acpi_names.specs.Errors.{whole_of}
 use Rattle.acpi_names.proofs.Mentions.{right_nil}
@@ -27,8 +27,8 @@ module _ (width : Width) where
     folded_declares statement (Apply op args targets) scope d =
         reduced_other (λ t. declare t scope d ≡ d) (λ op args targets. refl) (λ n. refl) width statement op (folded_args width args) (folded_args width targets)
     folded_declares statement (VarPackage size elements) scope d = sized_other (λ t. declare t scope d ≡ d) (λ n es. refl) (λ n es. refl) (folded width false size) (folded_args width elements)
-    folded_declares statement (Method at name flags body) scope d = all_declare body (place_of name scope) (with_declared (place_of name scope) (As (MethodObject flags)) d)
-    folded_declares statement (Container' kind at name body) scope d = all_declare body (place_of name scope) (with_declared (place_of name scope) (As (ContainerObject kind)) d)
+    folded_declares statement (Method at name flags body) scope d = all_declare body (declared_path name scope) (with_declared (declared_path name scope) (As (MethodObject flags)) d)
+    folded_declares statement (Container' kind at name body) scope d = all_declare body (declared_path name scope) (with_declared (declared_path name scope) (As (ContainerObject kind)) d)
     folded_declares statement (Scope here at name body) scope d = all_declare body (scope_path d name scope) d
     folded_declares statement (If test body) scope d = all_declare body scope d
     folded_declares statement (ElseIf test body) scope d = all_declare body scope d
@@ -111,8 +111,8 @@ module _ (width : Width) where
       folded_calls statement (CreateField form args at name) scope d = args_call args scope d
       folded_calls statement (Return value) scope d = folded_calls false value scope d
       folded_calls statement (Name at name value) scope d = folded_calls false value scope d
-      folded_calls statement (Method at name flags body) scope d = all_call body (place_of name scope) (with_declared (place_of name scope) (As (MethodObject flags)) d)
-      folded_calls statement (Container' kind at name body) scope d = all_call body (place_of name scope) (with_declared (place_of name scope) (As (ContainerObject kind)) d)
+      folded_calls statement (Method at name flags body) scope d = all_call body (declared_path name scope) (with_declared (declared_path name scope) (As (MethodObject flags)) d)
+      folded_calls statement (Container' kind at name body) scope d = all_call body (declared_path name scope) (with_declared (declared_path name scope) (As (ContainerObject kind)) d)
       folded_calls statement (Scope here at name body) scope d = all_call body (scope_path d name scope) d
       folded_calls statement _ scope d = refl
 

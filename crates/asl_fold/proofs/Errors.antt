@@ -10,9 +10,10 @@ use Rattle.acpi_state.specs.FieldActs.{region_letters, field_letters}
 use Rattle.acpi_state.specs.Outcomes.{choose}
 use Rattle.asl_meaning.specs.Declarations.{As, Declarations, nothing_declared, is_named, scope_path, with_declared, declare}
 use Rattle.asl_meaning.specs.Meaning.{spot_form}
-use Rattle.asl_tree.specs.Names.{place_of, denoted}
+use Rattle.asl_tree.specs.Names.{declared_path, denoted}
 use Rattle.asl_tree.specs.Tree.{Tree, Integer, Constant, Omitted, Call, Apply, Buffer, Package, VarPackage, CondRefOf, Return, Name, Method, Container', Scope, If, ElseIf, Else, While, For, Print, OperationRegion, BankField, CreateField, Operated, Assigned, AssignedBy, Trees, no_trees, tree, count, Switch, Case, Default}
-use Rattle.acpi_names.specs.Errors.{NameError, Asked, Anything, AUnit, ARegion, Whole, whole_of, asked_by, use_errors, call_errors, declared_errors, scope_errors, items_errors, cond_errors, names, names_all, asked_types, used_types, letter_types, spot_form_types, element_types, types, spot_types, first_types, operand_types, spot_types_all, element_types_all, types_all, unless, takes, name_end, WrongCount, name_errors, type_errors}
+use Rattle.acpi_names.specs.Errors.{NameError, Asked, Anything, AUnit, ARegion, Whole, whole_of, asked_by, use_errors, call_errors, declared_errors, scope_errors, items_errors, cond_errors, names, names_all, asked_types, used_types}
+use Rattle.acpi_names.specs.Errors.{letter_types, spot_form_types, element_types, types, spot_types, first_types, operand_types, spot_types_all, element_types_all, types_all, unless, takes, name_end, WrongCount, name_errors, type_errors}
 use Rattle.acpi_names.proofs.Mentions.{right_nil}
 use Rattle.asl_fold.specs.Folds.{reduced, sized, folded, folded_args, folded_all}
 use Rattle.asl_fold.proofs.Values.{reduced_other, sized_other, sized_as, reduced_as, AreConstants, Targets, NoTarget, OneTarget, LastTarget}
@@ -82,7 +83,7 @@ module _ (width : Width) (whole : Whole) where
     folded_names statement (Return value) scope d = folded_names false value scope d
     folded_names statement (Name at name value) scope d = ap (λ es. declared_errors whole at name scope d ++ es) (folded_names false value scope d)
     folded_names statement (Method at name flags body) scope d =
-        ap (λ es. declared_errors whole at name scope d ++ es) (all_named body (place_of name scope) (with_declared (place_of name scope) (As (MethodObject flags)) d))
+        ap (λ es. declared_errors whole at name scope d ++ es) (all_named body (declared_path name scope) (with_declared (declared_path name scope) (As (MethodObject flags)) d))
     folded_names statement (If test body) scope d = both (N (F test) scope d) (Ns (folded_all width body) scope d) (N test scope d) (Ns body scope d) (folded_names false test scope d) (all_named body scope d)
     folded_names statement (ElseIf test body) scope d = both (N (F test) scope d) (Ns (folded_all width body) scope d) (N test scope d) (Ns body scope d) (folded_names false test scope d) (all_named body scope d)
     folded_names statement (Else body) scope d = all_named body scope d
@@ -100,7 +101,7 @@ module _ (width : Width) (whole : Whole) where
         ap (λ es. use_errors whole from region scope ++ (use_errors whole to bank scope ++ (es ++ items_errors whole items scope d))) (folded_names false value scope d)
     folded_names statement (CreateField form args at name) scope d = ap (λ es. es ++ declared_errors whole at name scope d) (args_named args scope d)
     folded_names statement (Container' kind at name body) scope d =
-        ap (λ es. declared_errors whole at name scope d ++ es) (all_named body (place_of name scope) (with_declared (place_of name scope) (As (ContainerObject kind)) d))
+        ap (λ es. declared_errors whole at name scope d ++ es) (all_named body (declared_path name scope) (with_declared (declared_path name scope) (As (ContainerObject kind)) d))
     folded_names statement (Scope here at name body) scope d = ap (λ es. (use_errors whole at name scope ++ scope_errors whole here at name scope d) ++ es) (all_named body (scope_path d name scope) d)
     folded_names statement _ scope d = refl
 
@@ -209,8 +210,8 @@ module _ (width : Width) (whole : Whole) where
     folded_types statement (CreateField form args at name) scope = operands_typed Anything (field_letters form) args scope
     folded_types statement (Return value) scope = folded_types false value scope
     folded_types statement (Name at name value) scope = folded_types false value scope
-    folded_types statement (Method at name flags body) scope = all_typed body (place_of name scope)
-    folded_types statement (Container' kind at name body) scope = all_typed body (place_of name scope)
+    folded_types statement (Method at name flags body) scope = all_typed body (declared_path name scope)
+    folded_types statement (Container' kind at name body) scope = all_typed body (declared_path name scope)
     folded_types statement (Scope here at name body) scope = all_typed body (choose (denoted (is_named whole.all) name scope) [] (λ path. path))
     folded_types statement _ scope = refl
 

@@ -18,15 +18,15 @@ use Rattle.asl_tree.specs.Tree as T
 use Rattle.asl_tree.specs.Tree.{At, Tree, Integer, Constant, String, Debug, Print, Raw, Omitted, Use, Package, VarPackage, Operated, Misshapen, Method, Container', Scope, If, ElseIf, Else, While, Trees, no_trees, tree, count, Field, IndexField, BankField, UnitName}
 use Rattle.asl_tree.specs.View.{fits, form, operands_as, targets_of, operated, symbol_of, buffer, body_bytes, packaged, counted, items_in}
 use Rattle.asl_fold.specs.declared.part.Listing.{Listing}
-use Rattle.asl_fold.specs.declared.part.Part.{Part}
+use Rattle.asl_fold.specs.declared.part.MemberRole.{MemberRole}
 use Rattle.asl_fold.specs.Folds.{sized, folded, folded_args, folded_all}
 use Rattle.asl_fold.specs.Nodes.{is_raw, raw_at, part_in, listing_of, folded_as, folded_by}
 use Rattle.asl_fold.proofs.Values.{reduced_other, sized_other}
 use Rattle.asl_fold.proofs.Declared.{count_args}
 
 -- the operands of an operator by its letters
-abbrev pub letter_part : List Letter → ℕ → Part
-letter_part letters i = if raw_at letters i then Part.Kept else Part.Operand
+abbrev pub letter_part : List Letter → ℕ → MemberRole
+letter_part letters i = if raw_at letters i then MemberRole.Kept else MemberRole.Operand
 
 abbrev pub is_operator : Op → Bool
 is_operator (Op.Plain op) = true
@@ -53,21 +53,21 @@ module _ (width : Width) where
 
   -- ---- lists of one kind
 
-  pub operands_are : (ts : Trees) → folded_by width (λ i. Part.Operand) ts ≡ Fs ts
+  pub operands_are : (ts : Trees) → folded_by width (λ i. MemberRole.Operand) ts ≡ Fs ts
   operands_are no_trees = refl
   operands_are (tree t ts) = ap (tree (F t)) (operands_are ts)
 
-  pub statements_are : (ts : Trees) → folded_by width (λ i. Part.Statement) ts ≡ folded_all width ts
+  pub statements_are : (ts : Trees) → folded_by width (λ i. MemberRole.Statement) ts ≡ folded_all width ts
   statements_are no_trees = refl
   statements_are (tree t ts) = ap (tree (folded width true t)) (statements_are ts)
 
-  pub kept_are : (ts : Trees) → folded_by width (λ i. Part.Kept) ts ≡ ts
+  pub kept_are : (ts : Trees) → folded_by width (λ i. MemberRole.Kept) ts ≡ ts
   kept_are no_trees = refl
   kept_are (tree t ts) = ap (tree t) (kept_are ts)
 
   -- ---- operands and targets
 
-  folded_first : (letter : Letter) (t : Tree) → F (first_operand letter t) ≡ first_operand letter (folded_as width (if is_raw letter then Part.Kept else Part.Operand) t)
+  folded_first : (letter : Letter) (t : Tree) → F (first_operand letter t) ≡ first_operand letter (folded_as width (if is_raw letter then MemberRole.Kept else MemberRole.Operand) t)
   folded_first (L.Raw size) (Integer number) = refl
   folded_first (L.Raw size) t = refl
   folded_first Valued Omitted = refl
@@ -80,7 +80,7 @@ module _ (width : Width) where
   folded_operands [] ts = refl
   folded_operands (letter ∷ letters) no_trees = refl
   folded_operands (letter ∷ letters) (tree t ts) =
-      let first = folded_as width (if is_raw letter then Part.Kept else Part.Operand) t in
+      let first = folded_as width (if is_raw letter then MemberRole.Kept else MemberRole.Operand) t in
       ap Fs (operands_first letter letters t ts)
       ∙ ap (λ x. tree x (Fs (operands_as letters ts))) (folded_first letter t)
       ∙ ap (tree (first_operand letter first)) (folded_operands letters ts)
@@ -93,7 +93,7 @@ module _ (width : Width) where
 
   -- ---- symbols
 
-  fits_folded : (letters : List Letter) (part : ℕ → Part) (ts : Trees) → fits letters (folded_by width part ts) ≡ fits letters ts
+  fits_folded : (letters : List Letter) (part : ℕ → MemberRole) (ts : Trees) → fits letters (folded_by width part ts) ≡ fits letters ts
   fits_folded [] part no_trees = refl
   fits_folded [] part (tree t ts) = refl
   fits_folded (letter ∷ letters) part no_trees = refl

@@ -16,7 +16,7 @@ use Rattle.acpi_names.proofs.Trees.{form_tree, call_tree}
 use Rattle.asl_lower.proofs.Turns.{Turns}
 use Rattle.asl_fold.specs.declared.fate.Fate.{Fate}
 use Rattle.asl_fold.specs.declared.part.Listing.{Listing}
-use Rattle.asl_fold.specs.declared.part.Part.{Part}
+use Rattle.asl_fold.specs.declared.part.MemberRole.{MemberRole}
 use Rattle.asl_fold.specs.Folds.{folded}
 use Rattle.asl_fold.specs.Nodes.{part_in, listing_of, folded_as, folded_by, fate_form, replaced_form, reduced_form}
 use Rattle.asl_fold.proofs.Forms.{is_operator, operands_are, kept_are, other_form}
@@ -25,15 +25,15 @@ use Rattle.asl_fold.proofs.Stored.{operator_folded, replaced_is, plain_stays}
 -- ---- the members of a list
 
 -- a member and what it is folded to
-pub record IsFolded (width : Width) (part : Part) (old now : Node) : Type 0 where
+pub record IsFolded (width : Width) (part : MemberRole) (old now : Node) : Type 0 where
   pub is : node_tree now ≡ folded_as width part (node_tree old)
   pub places : term_places now ≡ term_places old
 
 -- a member that is folded as what it is
-pub member_folded : (width : Width) (part : ℕ → Part) (k : ℕ) (what : Part) (old now : Node) → what ≡ part k → node_tree now ≡ folded_as width what (node_tree old) → term_places now ≡ term_places old → IsFolded width (part k) old now
+pub member_folded : (width : Width) (part : ℕ → MemberRole) (k : ℕ) (what : MemberRole) (old now : Node) → what ≡ part k → node_tree now ≡ folded_as width what (node_tree old) → term_places now ≡ term_places old → IsFolded width (part k) old now
 member_folded width part k what old now e is places = record { is = is ∙ ap (λ p. folded_as width p (node_tree old)) e; places = places }
 
-trees_folded : (width : Width) (part : ℕ → Part) (old now : List Node) → length now ≡ length old → ((k : ℕ) → k < length old → (e : Node) → IsFolded width (part k) (get_or old k e) (get_or now k e)) → trees_of now ≡ folded_by width part (trees_of old)
+trees_folded : (width : Width) (part : ℕ → MemberRole) (old now : List Node) → length now ≡ length old → ((k : ℕ) → k < length old → (e : Node) → IsFolded width (part k) (get_or old k e) (get_or now k e)) → trees_of now ≡ folded_by width part (trees_of old)
 unfolding trees_of
 trees_folded width part [] [] size h = refl
 trees_folded width part [] (n ∷ now) size h = absurd (omega (arith, size))
@@ -42,7 +42,7 @@ trees_folded width part (o ∷ old) (n ∷ now) size h =
     ap (λ t. tree t (trees_of now)) (h 0 (omega arith) o).is
     ∙ ap (tree (folded_as width (part 0) (node_tree o))) (trees_folded width (λ i. part (suc i)) old now (omega (arith, size)) (λ k lt e. h (suc k) (omega (arith, lt)) e))
 
-places_folded : (width : Width) (part : ℕ → Part) (old now : List Node) → length now ≡ length old → ((k : ℕ) → k < length old → (e : Node) → IsFolded width (part k) (get_or old k e) (get_or now k e)) → places_of now ≡ places_of old
+places_folded : (width : Width) (part : ℕ → MemberRole) (old now : List Node) → length now ≡ length old → ((k : ℕ) → k < length old → (e : Node) → IsFolded width (part k) (get_or old k e) (get_or now k e)) → places_of now ≡ places_of old
 unfolding places_of
 places_folded width part [] [] size h = refl
 places_folded width part [] (n ∷ now) size h = absurd (omega (arith, size))
@@ -51,7 +51,7 @@ places_folded width part (o ∷ old) (n ∷ now) size h =
     ap (λ ps. ps ++ places_of now) (h 0 (omega arith) o).places
     ∙ ap (λ ps. term_places o ++ ps) (places_folded width (λ i. part (suc i)) old now (omega (arith, size)) (λ k lt e. h (suc k) (omega (arith, lt)) e))
 
-pub all_folded : (width : Width) (part : ℕ → Part) (old now : List Node) (i : ℕ) → length old ≤ i → Turns (λ k. IsFolded width (part k)) old now i → (trees_of now ≡ folded_by width part (trees_of old)) × (places_of now ≡ places_of old)
+pub all_folded : (width : Width) (part : ℕ → MemberRole) (old now : List Node) (i : ℕ) → length old ≤ i → Turns (λ k. IsFolded width (part k)) old now i → (trees_of now ≡ folded_by width part (trees_of old)) × (places_of now ≡ places_of old)
 all_folded width part old now i le turns =
     let each : (k : ℕ) → k < length old → (e : Node) → IsFolded width (part k) (get_or old k e) (get_or now k e) = λ k lt e. turns.done k (omega (arith, lt, le)) e in
     (trees_folded width part old now turns.size each, places_folded width part old now turns.size each)

@@ -24,7 +24,7 @@ use Rattle.asl_tree.specs.Tree.{Tree, Integer, Constant, InSlot, Omitted, Apply,
 use Rattle.asl_tree.specs.View.{operands_as, targets_of, apply_of}
 use Rattle.asl_fold.specs.declared.fate.Fate.{Fate}
 use Rattle.asl_fold.specs.declared.part.Listing.{Listing}
-use Rattle.asl_fold.specs.declared.part.Part.{Part}
+use Rattle.asl_fold.specs.declared.part.MemberRole.{MemberRole}
 use Rattle.asl_fold.specs.declared.seen.Seen.{Seen}
 use Rattle.asl_fold.specs.Folds.{fate_of, last_of, folded}
 
@@ -74,11 +74,11 @@ is_kept (Op.Symbolic (Symbolic.Operator op)) i = raw_at (row_of op).operands i
 is_kept op i = false
 
 -- what the member of a list at a place is
-abbrev pub part_in : Listing → ℕ → Part
-part_in (Listing.Arguments op) i = if is_kept op i then Part.Kept else Part.Operand
-part_in Listing.Elements i = Part.Operand
-part_in Listing.Terms i = Part.Statement
-part_in Listing.Others i = Part.Kept
+abbrev pub part_in : Listing → ℕ → MemberRole
+part_in (Listing.Arguments op) i = if is_kept op i then MemberRole.Kept else MemberRole.Operand
+part_in Listing.Elements i = MemberRole.Operand
+part_in Listing.Terms i = MemberRole.Statement
+part_in Listing.Others i = MemberRole.Kept
 
 -- what stands in the braces of a form
 abbrev pub listing_of : Op → Listing
@@ -100,12 +100,12 @@ listing_of (Op.Control Control.Default) = Listing.Terms
 listing_of op = Listing.Others
 
 -- a member that is folded as what it is
-abbrev pub folded_as : Width → Part → Tree → Tree
-folded_as width Part.Kept term = term
-folded_as width Part.Operand term = folded width false term
-folded_as width Part.Statement term = folded width true term
+abbrev pub folded_as : Width → MemberRole → Tree → Tree
+folded_as width MemberRole.Kept term = term
+folded_as width MemberRole.Operand term = folded width false term
+folded_as width MemberRole.Statement term = folded width true term
 
-abbrev pub folded_by : Width → (ℕ → Part) → Trees → Trees
+abbrev pub folded_by : Width → (ℕ → MemberRole) → Trees → Trees
 folded_by width part no_trees = no_trees
 folded_by width part (tree t ts) = tree (folded_as width (part 0) t) (folded_by width (λ i. part (suc i)) ts)
 

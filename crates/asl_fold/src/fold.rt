@@ -11,7 +11,7 @@ ghost use Rattle.asl_fold.specs.Folds.{folded, folded_all, folded_where, last_of
 ghost use Rattle.asl_fold.specs.Nodes.{part_in, folded_as, folded_by};
 
 use crate::fate::{Fate, fate_in};
-use crate::part::{Listing, Part, listing_of, part_of};
+use crate::part::{Listing, MemberRole, listing_of, part_of};
 use acpi_values::operator::{DataOp, Plain};
 use acpi_values::width::Width;
 use asl_tree::term::{Node, Op, Term};
@@ -40,7 +40,8 @@ fn stored(
     args: Vec<Node>,
 ) -> Result<Term, AllocError>
     ensures tree { IfOk result
-        (λ made. (at : At) → tree_of at made ≡ Apply (P.Data DataOp.Store) (tree (Integer number) (last_of (trees_of args.items))) no_trees) }
+        (λ made. (at : At)
+        → tree_of at made ≡ Apply (P.Data DataOp.Store) (tree (Integer number) (last_of (trees_of args.items))) no_trees) }
     ensures places { IfOk result (λ made. inner_places made ≡ []) }
 {
     let mut left = args;
@@ -109,17 +110,22 @@ fn fold_nodes(
 }
 
 #[cycle(fold)]
-fn fold_part(alloc: Global, width: Width, part: Part, node: &mut Node) -> Result<(), AllocError>
+fn fold_part(
+    alloc: Global,
+    width: Width,
+    part: MemberRole,
+    node: &mut Node,
+) -> Result<(), AllocError>
     ensures tree { OnOk result (node_tree node.new ≡ folded_as width part (node_tree node.old)) }
     ensures places { OnOk result (term_places node.new ≡ term_places node.old) }
 {
     match part {
-        Part::Kept => Ok(()),
-        Part::Operand => {
+        MemberRole::Kept => Ok(()),
+        MemberRole::Operand => {
             fold_node(alloc, width, false, node)?;
             Ok(())
         }
-        Part::Statement => {
+        MemberRole::Statement => {
             fold_node(alloc, width, true, node)?;
             Ok(())
         }

@@ -16,7 +16,8 @@ ghost use Rattle.asl_fold.specs.Folds.{folded_all};
 /// A program has the same sessions with its constants folded.
 pub fn same_sessions()
     ensures { (width : Width) (known : Known) (terms : Trees) (there : Names) (n : ℕ) (answers : List Value) (requests : List Request)
-        → source_session width known (folded_all width terms) there n answers requests ≡ source_session width known terms there n answers requests }
+        → source_session width known (folded_all width terms) there n answers requests
+        ≡ source_session width known terms there n answers requests }
 {}
 
 /// It declares the same, and has the same errors of names and kinds.

@@ -12,7 +12,7 @@ use asl_tree::term::{Control, Declaration, Op, Special, Symbolic};
 
 /// What a member of a list is: it is kept as it is written, it is an operand, or a statement.
 #[derive(Clone, Copy, PartialEq, Eq, Debug)]
-pub enum Part {
+pub enum MemberRole {
     Kept,
     Operand,
     Statement,
@@ -99,18 +99,18 @@ fn is_kept(op: Op, index: usize) -> bool
 }
 
 /// What the member of a list at a place is.
-pub(crate) fn part_of(listing: Listing, index: usize) -> Part
+pub(crate) fn part_of(listing: Listing, index: usize) -> MemberRole
     ensures { result ≡ part_in listing index }
 {
     match listing {
         Listing::Arguments(op) => if is_kept(op, index) {
-            Part::Kept
+            MemberRole::Kept
         } else {
-            Part::Operand
+            MemberRole::Operand
         },
-        Listing::Elements => Part::Operand,
-        Listing::Terms => Part::Statement,
-        Listing::Others => Part::Kept,
+        Listing::Elements => MemberRole::Operand,
+        Listing::Terms => MemberRole::Statement,
+        Listing::Others => MemberRole::Kept,
     }
 }
 

@@ -20,7 +20,7 @@ use Rattle.acpi_state.specs.Uses.{use_object, call_written}
 use Rattle.acpi_state.specs.Sessions.{Report, report, Request, call_external, call_object, answer_request, unless_unfinished, reports, session}
 use Rattle.asl_tree.specs.Tree.{Trees}
 use Rattle.asl_meaning.specs.Meaning.{SourceRun}
-use Rattle.asl_formats.specs.Forms.{formed_all}
+use Rattle.asl_prints.specs.Forms.{formed_all}
 
 abbrev pub formed_bodies : List (AbsolutePath × Trees) → List (AbsolutePath × Trees)
 formed_bodies [] = []

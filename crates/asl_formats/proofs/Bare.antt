@@ -1,18 +1,16 @@
 -- What terms do has nothing to do with where their names stand.
-use Rattle.std.proofs.Common.{◌≡◌, ℕ, zero, suc, Bool, true, false, List, [], ◌∷◌, Option, Some, None, refl, sym, ap, ◌∙◌}
+use Rattle.std.proofs.Common.{◌≡◌, ℕ, Bool, true, false, List, [], ◌∷◌, Option, Some, refl, sym, ap, ◌∙◌}
 use Rattle.std.proofs.Math.Path.{fun_ext}
 use Rattle.std.specs.Prelude.{if◌then◌else◌}
 use Rattle.acpi_values.specs.declared.width.Width.{Width}
-use Rattle.acpi_values.specs.declared.operator.Plain.{Plain}
 use Rattle.acpi_values.specs.Operators.{Letter, Valued, Kept, Placed, Used, row_of}
 use Rattle.acpi_values.specs.Operators as L
 use Rattle.acpi_values.specs.Paths.{AbsolutePath}
 use Rattle.acpi_values.specs.Values.{Value, Elements, Place, element}
 use Rattle.acpi_state.specs.Outcomes.{Flow, Normal, Gives, done, then_run, act, value_of, on_flow}
-use Rattle.acpi_state.specs.Outcomes as O
 use Rattle.acpi_state.specs.Loops.{is_true, loop}
 use Rattle.acpi_state.specs.Actions.{computed}
-use Rattle.acpi_state.specs.Acts.{Operand, OfValue, OfKept}
+use Rattle.acpi_state.specs.Acts.{Operand, OfKept}
 use Rattle.acpi_state.specs.Stores.{Spot, Nowhere, store}
 use Rattle.acpi_state.specs.Forms.{buffer_of, package_of, cond_ref_of}
 use Rattle.acpi_state.specs.Uses.{call_written}
@@ -21,9 +19,9 @@ use Rattle.asl_tree.specs.Symbols.{compound_operator}
 use Rattle.asl_tree.specs.Tree.{Tree, Raw, Use, Call, Apply, Operated, Assigned, AssignedBy, Buffer, Package, VarPackage, CondRefOf, If, ElseIf, Else, While, Switch, Case, Default, Trees, no_trees, tree}
 use Rattle.asl_meaning.specs.Meaning as S
 use Rattle.asl_meaning.specs.Meaning.{SourceRun, leave_switch, target_operator, two_values, spot_form, call_method}
-use Rattle.asl_formats.specs.Nodes.{DoTheSame}
+use Rattle.asl_prints.specs.Nodes.{DoTheSame}
 use Rattle.asl_formats.specs.Bare.{bare, bare_all}
-use Rattle.asl_formats.proofs.Runs.{then_same}
+use Rattle.asl_prints.proofs.Runs.{then_same}
 
 target_bare : (t : Tree) → target_operator (bare t) ≡ target_operator t
 target_bare (Operated op args) = refl

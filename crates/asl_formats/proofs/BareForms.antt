@@ -1,30 +1,25 @@
 -- Trees that stand for the same plans are the same but for where their names stand, where they are expressions throughout.
-use Rattle.std.proofs.Common.{◌≡◌, ℕ, zero, suc, ◌%◌, Bool, true, false, List, [], ◌∷◌, ◌++◌, refl, sym, ap, ◌∙◌, subst}
+use Rattle.std.proofs.Common.{◌≡◌, ℕ, suc, ◌%◌, Bool, true, false, List, [], ◌∷◌, ◌++◌, refl, sym, ap, ◌∙◌}
 use Rattle.std.specs.Prelude.{nat_le, not, ◌&&◌, ◌||◌, if◌then◌else◌}
-use Rattle.iasl_messages.specs.declared.place.Place.{Place}
-use Rattle.acpi_values.specs.Operators.{Letter, Valued, Row, row_of}
+use Rattle.acpi_values.specs.Operators.{Letter, Valued, row_of}
 use Rattle.acpi_values.specs.Operators as L
 use Rattle.acpi_values.specs.declared.operator.IntOp.{IntOp}
 use Rattle.acpi_values.specs.declared.operator.Plain.{Plain}
-use Rattle.asl_tree.specs.declared.path.Path.{Path}
 use Rattle.asl_tree.specs.declared.term.Op.{Op}
-use Rattle.asl_tree.specs.declared.term.Literal.TheVariants as Literal
 use Rattle.asl_tree.specs.declared.term.Special.TheVariants as Special
 use Rattle.asl_tree.specs.declared.term.Symbolic.TheVariants as Symbolic
-use Rattle.asl_tree.specs.Tree.{At, Tree, Apply, Operated, Assigned, AssignedBy, Integer, Constant, String, InSlot, Debug, Raw, Omitted, Use, Call, Fill, Buffer, Package, VarPackage, CondRefOf, Misshapen, Trees, no_trees, tree, count}
+use Rattle.asl_tree.specs.Tree.{At, Tree, Apply, Integer, String, Omitted, Call, Fill, Package, VarPackage, Misshapen, Trees, no_trees, tree, count}
 use Rattle.asl_tree.specs.View.{fits, form, operands_as, targets_of, plain_of, not_of, apply_of, operated, symbol_of, buffer, body_bytes, listed, packaged, counted}
-use Rattle.asl_shape.specs.Plans.{Plan, a_text, a_fill, a_name, a_unit, a_call, a_form, Plans, no_plans, plan}
-use Rattle.asl_formats.specs.Nodes.{none_in}
-use Rattle.asl_formats.specs.Stands.{are, expresses}
-use Rattle.asl_formats.specs.Texts.{is_text}
+use Rattle.asl_shape.specs.Plans.{Plan, a_name, a_unit, a_call, a_form, Plans, no_plans, plan}
+use Rattle.asl_prints.specs.Nodes.{none_in}
+use Rattle.asl_prints.specs.Fits.{are, expresses}
 use Rattle.asl_formats.specs.Bare.{nowhere, bare, bare_all}
 use Rattle.asl_formats.specs.Plain.{is_package, is_plain, are_plain}
-use Rattle.asl_formats.specs.Plans as P
+use Rattle.asl_prints.specs.Plans as P
 use Rattle.asl_formats.proofs.Loops.{first_true}
 use Rattle.asl_formats.proofs.FormedForms.{first_operand, operands_first}
-use Rattle.asl_formats.proofs.LeafForms.{is_leaf, no_leaf_form}
-use Rattle.asl_formats.proofs.TextForms.{no_text_form}
-use Rattle.asl_formats.proofs.PlanTrees.{Stands, StandAll, expresses_stand}
+use Rattle.asl_prints.proofs.LeafForms.{is_leaf, no_leaf_form}
+use Rattle.asl_prints.proofs.PlanTrees.{Stands, StandAll, expresses_stand}
 
 second_true : (a b : Bool) → (a && b) ≡ true → b ≡ true
 second_true true b e = e

@@ -3,10 +3,10 @@ use Rattle.std.proofs.Common.{◌≡◌, Bool, true, false, [], refl, ap, ◌∙
 use Rattle.std.specs.Prelude.{if◌then◌else◌, ◌&&◌, not}
 use Rattle.acpi_values.specs.Paths.{AbsolutePath}
 use Rattle.acpi_state.specs.Objects.{MethodObject, ContainerObject}
-use Rattle.asl_tree.specs.Names.{place_of}
+use Rattle.asl_tree.specs.Names.{declared_path}
 use Rattle.asl_tree.specs.Tree.{Tree, Omitted, Name, Alias, External, Method, Mutex, Event, Container', Scope, If, ElseIf, Else, While, Continue, For, Print, Switch, Case, Default, OperationRegion, Field, IndexField, BankField, CreateField, Trees, no_trees, tree}
 use Rattle.asl_meaning.specs.Declarations.{As, Declarations, nothing_declared, scope_path, with_declared, declare, declare_all, declarations}
-use Rattle.asl_formats.specs.Forms.{followed, optional, stepped, stepped_all, while_tree, for_trees, print_tree, is_expression, is_steppable, is_filled, have_far_continue, spread, formed, formed_all}
+use Rattle.asl_prints.specs.Forms.{followed, optional, stepped, stepped_all, while_tree, for_trees, print_tree, is_expression, is_steppable, is_filled, have_far_continue, spread, formed, formed_all}
 use Rattle.asl_formats.proofs.Loops.{first_true}
 
 -- an expression declares nothing
@@ -94,8 +94,8 @@ spread_declares t rest scope d = refl
 
 mutual
   pub formed_declares : (t : Tree) (scope : AbsolutePath) (d : Declarations) → declare (formed t) scope d ≡ declare t scope d
-  formed_declares (Method at name flags body) scope d = all_declare body (place_of name scope) (with_declared (place_of name scope) (As (MethodObject flags)) d)
-  formed_declares (Container' kind at name body) scope d = all_declare body (place_of name scope) (with_declared (place_of name scope) (As (ContainerObject kind)) d)
+  formed_declares (Method at name flags body) scope d = all_declare body (declared_path name scope) (with_declared (declared_path name scope) (As (MethodObject flags)) d)
+  formed_declares (Container' kind at name body) scope d = all_declare body (declared_path name scope) (with_declared (declared_path name scope) (As (ContainerObject kind)) d)
   formed_declares (Scope here at name body) scope d = all_declare body (scope_path d name scope) d
   formed_declares (If test body) scope d = all_declare body scope d
   formed_declares (ElseIf test body) scope d = all_declare body scope d

@@ -17,7 +17,7 @@ use Rattle.asl_tree.specs.Formats.{cut, is_format}
 use Rattle.asl_tree.specs.Tree.{At, Tree, Integer, Constant, String, InSlot, Debug, Omitted, Apply, Return, Method, If, While, For, Print, Switch, Case, Continue, Break, Operated, Assigned, Trees, no_trees, tree}
 use Rattle.asl_meaning.specs.Declarations.{known_of}
 use Rattle.asl_meaning.specs.SourceSession.{source_session}
-use Rattle.asl_formats.specs.Forms.{formed_all}
+use Rattle.asl_prints.specs.Forms.{formed_all}
 
 abbrev list_of : List Tree → Trees
 list_of [] = no_trees

@@ -1,7 +1,7 @@
 -- A form with its arguments and its braces formed.
 use Rattle.std.proofs.Common.{◌≡◌, ℕ, suc, Bool, true, false, List, [], ◌∷◌, Option, Some, None, refl, sym, ap, ◌∙◌}
 use Rattle.std.specs.Prelude.{nat_le, if◌then◌else◌}
-use Rattle.acpi_values.specs.Operators.{Letter, Valued, Row, row_of}
+use Rattle.acpi_values.specs.Operators.{Letter, Valued, row_of}
 use Rattle.acpi_values.specs.Operators as L
 use Rattle.acpi_values.specs.declared.operator.IntOp.{IntOp}
 use Rattle.acpi_values.specs.declared.operator.Plain.{Plain}
@@ -15,7 +15,7 @@ use Rattle.asl_tree.specs.declared.term.Special.TheVariants as Special
 use Rattle.asl_tree.specs.declared.term.Symbolic.TheVariants as Symbolic
 use Rattle.asl_tree.specs.Tree.{At, Tree, Apply, Integer, Constant, String, Raw, Omitted, Use, Package, VarPackage, Misshapen, Trees, no_trees, tree, count, Field, IndexField, BankField, UnitName}
 use Rattle.asl_tree.specs.View.{fits, form, operands_as, targets_of, plain_of, not_of, apply_of, operated, symbol_of, buffer, body_bytes, packaged, counted, items_in}
-use Rattle.asl_formats.specs.Forms.{formed, formed_args}
+use Rattle.asl_prints.specs.Forms.{formed, formed_args}
 use Rattle.asl_formats.specs.Pass.{formed_body}
 
 -- an argument as an operand

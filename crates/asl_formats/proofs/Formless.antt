@@ -13,10 +13,11 @@ use Rattle.asl_tree.specs.declared.term.Term as D
 use Rattle.asl_tree.specs.Tree.{At, Call, Trees, tree}
 use Rattle.asl_tree.specs.View.{form, tree_of, row_trees, trees_of}
 use Rattle.asl_shape.specs.Plans.{Plan, a_call, a_form, Plans, no_plans, plan, plan_of, row_plans, plans_of}
-use Rattle.asl_formats.specs.Forms.{formed, formed_all, formed_args, spread}
-use Rattle.asl_formats.specs.Pass.{formed_body, has_terms}
-use Rattle.asl_formats.specs.Plans as P
-use Rattle.asl_formats.specs.Plans.{formed_plan, formed_plans}
+use Rattle.asl_prints.specs.Forms.{formed, formed_all, formed_args, spread}
+use Rattle.asl_formats.specs.Pass.{formed_body}
+use Rattle.asl_prints.specs.Nodes.{has_terms}
+use Rattle.asl_prints.specs.Plans as P
+use Rattle.asl_prints.specs.Plans.{formed_plan, formed_plans}
 use Rattle.asl_formats.specs.Present.{is_form, holds_terms, has_form, have_form}
 use Rattle.asl_formats.specs.Stands.{stand_of, form_stand}
 use Rattle.asl_formats.specs.declared.stand.Stand.TheVariants as S
@@ -67,7 +68,7 @@ mutual
   plan_args_stay (plan place p ps) e =
       let none = or_parts (has_form p) (have_form ps) e in ap (λ q. plan place q (P.formed_args ps)) (plan_stays p none.0) ∙ ap (plan place p) (plan_args_stay ps none.1)
 
-  plans_stay : (ps : Plans) → have_form ps ≡ false → formed_plans ps ≡ ps
+  pub plans_stay : (ps : Plans) → have_form ps ≡ false → formed_plans ps ≡ ps
   plans_stay no_plans e = refl
   plans_stay (plan place p ps) e =
       let none = or_parts (has_form p) (have_form ps) e in

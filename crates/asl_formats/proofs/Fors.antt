@@ -8,14 +8,15 @@ use Rattle.asl_tree.specs.declared.term.Term.{Term}
 use Rattle.asl_tree.specs.declared.term.Term as D
 use Rattle.asl_tree.specs.Tree.{At, Tree, For, While, Trees, no_trees, tree}
 use Rattle.asl_tree.specs.View.{form, tree_of, row_trees, trees_of}
-use Rattle.asl_formats.specs.Forms.{followed, optional, stepped_all, for_trees, spread}
-use Rattle.asl_formats.specs.Nodes.{node_tree, CanStep, DoTheSame, IsLoop, for_parts}
-use Rattle.asl_formats.proofs.Nodes.{rows, args_row, body_row, form_tree, behind_all}
-use Rattle.asl_formats.proofs.StepForms.{IsThere, there_form}
-use Rattle.asl_formats.proofs.Layers.{is_form, no_form}
+use Rattle.asl_prints.specs.Forms.{followed, optional, stepped_all, for_trees, spread}
+use Rattle.asl_prints.specs.Nodes.{node_tree, DoTheSame}
+use Rattle.asl_formats.specs.Steps.{CanStep, IsLoop, for_parts}
+use Rattle.asl_prints.proofs.Nodes.{rows, args_row, body_row, form_tree, behind_all}
+use Rattle.asl_prints.proofs.ThereForms.{IsThere, there_form}
+use Rattle.asl_prints.proofs.Layers.{is_form, no_form}
 use Rattle.asl_meaning.specs.Meaning as S
 use Rattle.asl_meaning.specs.Meaning.{call_method}
-use Rattle.asl_formats.proofs.Runs.{settled_call}
+use Rattle.asl_formats.proofs.Settling.{settled_call}
 use Rattle.asl_formats.proofs.Formed.{spread_same}
 
 no_nodes : trees_of [] ≡ no_trees

@@ -6,7 +6,7 @@ use Rattle.acpi_values.specs.declared.width.Width.{Width}
 use Rattle.acpi_values.specs.Paths.{AbsolutePath}
 use Rattle.acpi_values.specs.Values.{Value}
 use Rattle.acpi_state.specs.State.{State}
-use Rattle.acpi_state.specs.Outcomes.{Flow, Normal, Gives, NoValue, Result, Done, Stopped, Outcome, done, next, then_run, value_of, on_flow}
+use Rattle.acpi_state.specs.Outcomes.{Flow, Normal, Gives, NoValue, Result, Done, Stopped, done, next, then_run, value_of, on_flow}
 use Rattle.acpi_state.specs.Outcomes as O
 use Rattle.acpi_state.specs.Loops.{is_true, after_turn, loop}
 use Rattle.asl_tree.specs.Names.{Known}
@@ -15,8 +15,9 @@ use Rattle.asl_meaning.specs.Continues.{Lasts, Lasting}
 use Rattle.asl_meaning.specs.Meaning as S
 use Rattle.asl_meaning.specs.Meaning.{SourceRun, leave_switch, unless_omitted, then_step}
 use Rattle.asl_meaning.proofs.Lasting.{lasting}
-use Rattle.asl_formats.specs.Forms.{followed, optional, stepped, stepped_all, while_tree, for_trees, is_expression, has_far_continue, have_far_continue, is_steppable}
-use Rattle.asl_formats.proofs.Runs.{then_assoc, then_same, Settles, Settled, undue, followed_runs, settled}
+use Rattle.asl_prints.specs.Forms.{followed, optional, stepped, stepped_all, while_tree, for_trees, is_expression, has_far_continue, have_far_continue, is_steppable}
+use Rattle.asl_prints.proofs.Runs.{then_assoc, then_same}
+use Rattle.asl_formats.proofs.Settling.{Settles, Settled, undue, followed_runs, settled}
 
 first_false : (a b : Bool) → (a || b) ≡ false → a ≡ false
 first_false true b h = absurd (grind arith)

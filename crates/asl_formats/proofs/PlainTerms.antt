@@ -11,12 +11,12 @@ use Rattle.asl_tree.specs.View.{tree_of, trees_of}
 use Rattle.asl_shape.specs.Plans.{Plans, a_call, a_form, plan_of, plans_of}
 use Rattle.asl_shape.proofs.Plans.{plan_form, plan_call}
 use Rattle.asl_formats.specs.Bare.{nowhere}
-use Rattle.asl_formats.specs.Forms as F
+use Rattle.asl_prints.specs.Forms as F
 use Rattle.asl_formats.specs.Plain.{is_package, is_plain, are_plain}
-use Rattle.asl_formats.specs.Plans as P
-use Rattle.asl_formats.specs.Stands as S
+use Rattle.asl_prints.specs.Plans as P
+use Rattle.asl_prints.specs.Fits as S
 use Rattle.asl_formats.proofs.PlanPrograms.{is_flat, flat_term, node_stands}
-use Rattle.asl_formats.proofs.PlanTrees.{nodes_stand, expresses_stand, expression_stands}
+use Rattle.asl_prints.proofs.PlanTrees.{nodes_stand, expresses_stand, expression_stands}
 
 -- ---- a term
 

@@ -13,21 +13,22 @@ use Rattle.asl_tree.specs.declared.term.Special.TheVariants as Special
 use Rattle.asl_tree.specs.Tree.{At, Tree, String, Debug, Omitted, Apply, For, Print, Continue, Trees, no_trees, tree}
 use Rattle.asl_tree.specs.View.{form, operands_as}
 use Rattle.asl_shape.specs.Plans.{Plan, a_text, debug, omitted, a_name, a_unit, a_call, a_form, Plans, no_plans, plan, join}
-use Rattle.asl_formats.specs.Forms as F
-use Rattle.asl_formats.specs.Nodes.{stepped_body, is_next}
-use Rattle.asl_formats.specs.Nodes as N
+use Rattle.asl_prints.specs.Forms as F
+use Rattle.asl_formats.specs.Steps.{stepped_body, is_next}
+use Rattle.asl_prints.specs.Nodes as N
+use Rattle.asl_formats.specs.Steps as R
 use Rattle.asl_formats.specs.Pass as A
-use Rattle.asl_formats.specs.Texts.{is_text}
+use Rattle.asl_prints.specs.Texts.{is_text}
 use Rattle.asl_formats.specs.Stands.{form_stand}
 use Rattle.asl_formats.specs.declared.stand.Stand.TheVariants as S
-use Rattle.asl_formats.specs.Plans as P
+use Rattle.asl_prints.specs.Plans as P
 use Rattle.asl_formats.proofs.Loops.{first_true}
 use Rattle.asl_formats.proofs.FormedForms.{kept_form}
 use Rattle.asl_formats.proofs.StepForms.{stepped_form, other_form}
 use Rattle.asl_formats.proofs.Stepping.{followed_assoc, steps_of_other}
 use Rattle.asl_formats.proofs.StandForms.{stand_form}
 use Rattle.asl_formats.proofs.Standing.{itself_spread}
-use Rattle.asl_formats.proofs.PlanTrees.{Stands, StandAll, text_stands, given_stands, filled_stand, steppable_stands}
+use Rattle.asl_prints.proofs.PlanTrees.{Stands, StandAll, text_stands, given_stands, filled_stand, steppable_stands}
 
 -- ---- lists
 
@@ -47,12 +48,12 @@ optional_stands place p t s = subst (StandAll (plan place p no_plans)) (sym (the
 
 -- ---- steps before each Continue
 
-before_form : (steps : Plans) (trees cs bs : Trees) (at : At) → StandAll steps trees → StandAll no_plans cs → StandAll no_plans bs → StandAll steps (N.steps_before trees (form at (Op.Control Control.Continue) cs bs))
+before_form : (steps : Plans) (trees cs bs : Trees) (at : At) → StandAll steps trees → StandAll no_plans cs → StandAll no_plans bs → StandAll steps (R.steps_before trees (form at (Op.Control Control.Continue) cs bs))
 before_form steps trees no_trees no_trees at h s r = h
 before_form steps trees no_trees (tree t ts) at h s r = absurd r
 before_form steps trees (tree t ts) bs at h s r = absurd s
 
-no_before : (trees : Trees) (t : Tree) → is_next t ≡ false → StandAll no_plans (N.steps_before trees t)
+no_before : (trees : Trees) (t : Tree) → is_next t ≡ false → StandAll no_plans (R.steps_before trees t)
 no_before trees t e = subst (StandAll no_plans) (sym (steps_of_other trees t e)) tt
 
 -- a Continue that is none: it has arguments or braces
@@ -66,9 +67,9 @@ no_bare place p ps no_trees bs at s = absurd s
 no_bare place p ps (tree t ts) bs at s = refl
 
 module _ (steps : Plans) (trees : Trees) (h : StandAll steps trees) where
-  before_stands : (p : Plan) (t : Tree) → Stands p t → StandAll (P.steps_before steps p) (N.steps_before trees t)
+  before_stands : (p : Plan) (t : Tree) → Stands p t → StandAll (P.steps_before steps p) (R.steps_before trees t)
   before_stands (a_form (Op.Control Control.Continue) no_plans no_plans) t s =
-      subst (λ u. StandAll steps (N.steps_before trees u)) (sym s.3) (before_form steps trees s.1 s.2 s.0 h s.4 s.5)
+      subst (λ u. StandAll steps (R.steps_before trees u)) (sym s.3) (before_form steps trees s.1 s.2 s.0 h s.4 s.5)
   before_stands (a_form (Op.Control Control.Continue) no_plans (plan place p ps)) t s = no_before trees t (ap is_next s.3 ∙ no_continue place p ps s.1 s.2 s.0 s.5)
   before_stands (a_form (Op.Control Control.Continue) (plan place p ps) body) t s = no_before trees t (ap is_next s.3 ∙ no_bare place p ps s.1 s.2 s.0 s.4)
   before_stands (a_form op args body) t s = no_before trees t (ap is_next s.3 ∙ other_form s.0 op s.1 s.2 refl)
@@ -87,7 +88,7 @@ module _ (steps : Plans) (trees : Trees) (h : StandAll steps trees) where
   braces_stand op body bs s r = s
 
   -- with the steps before it
-  stepped_first : (t : Tree) (ts : Trees) → F.stepped_all trees (tree t ts) ≡ F.followed (N.steps_before trees t) (tree (F.stepped trees t) (F.stepped_all trees ts))
+  stepped_first : (t : Tree) (ts : Trees) → F.stepped_all trees (tree t ts) ≡ F.followed (R.steps_before trees t) (tree (F.stepped trees t) (F.stepped_all trees ts))
   stepped_first Continue ts = refl
   stepped_first t ts = refl
 
@@ -106,7 +107,7 @@ module _ (steps : Plans) (trees : Trees) (h : StandAll steps trees) where
     stepped_stand (plan place p ps) no_trees s = absurd s
     stepped_stand (plan place p ps) (tree t ts) s =
         subst (StandAll (P.stepped_all steps (plan place p ps))) (sym (stepped_first t ts))
-        (join_stand (P.steps_before steps p) (plan place (P.stepped steps p) (P.stepped_all steps ps)) (N.steps_before trees t) (tree (F.stepped trees t) (F.stepped_all trees ts))
+        (join_stand (P.steps_before steps p) (plan place (P.stepped steps p) (P.stepped_all steps ps)) (R.steps_before trees t) (tree (F.stepped trees t) (F.stepped_all trees ts))
         (before_stands p t s.0) (stepped_stands p t s.0, stepped_stand ps ts s.1))
 
 -- ---- what prints

@@ -11,12 +11,13 @@ use Rattle.asl_tree.specs.Tree.{Trees, no_trees, tree}
 use Rattle.asl_tree.specs.View.{trees_of}
 use Rattle.asl_shape.specs.Plans.{Plan, a_form, Plans, no_plans, plan, join, plan_of, plans_of}
 use Rattle.asl_shape.proofs.Plans.{plan_form}
-use Rattle.asl_formats.specs.Nodes.{CanStep, IsLoop}
-use Rattle.asl_formats.specs.Plans.{optional, stepped_all, while_plan, is_steppable, spread}
-use Rattle.asl_formats.specs.PlanPass.{for_plans, placed}
+use Rattle.asl_formats.specs.Steps.{CanStep, IsLoop}
+use Rattle.asl_prints.specs.Plans.{optional, stepped_all, while_plan, is_steppable, spread}
+use Rattle.asl_formats.specs.PlanPass.{for_plans}
+use Rattle.asl_prints.specs.PlanParts.{placed}
 use Rattle.asl_formats.proofs.Fors.{three_items, loop_row, not_loop}
-use Rattle.asl_formats.proofs.PlanTrees.{StandAll, nodes_stand, steppable_stands}
-use Rattle.asl_formats.proofs.PlanNodes.{no_nodes, one_node, behind, same_place}
+use Rattle.asl_prints.proofs.PlanTrees.{StandAll, nodes_stand, steppable_stands}
+use Rattle.asl_prints.proofs.PlanNodes.{no_nodes, one_node, behind, same_place}
 
 -- ---- a term that may be left out
 

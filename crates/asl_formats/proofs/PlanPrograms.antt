@@ -14,17 +14,18 @@ use Rattle.asl_tree.specs.Tree.{At, Tree, String, Trees, no_trees, tree}
 use Rattle.asl_tree.specs.View.{tree_of, trees_of}
 use Rattle.asl_shape.specs.Plans.{Plan, a_text, debug, a_call, a_form, Plans, no_plans, plan, join, plan_of, plans_of}
 use Rattle.asl_shape.proofs.Plans.{plan_form, plan_call}
-use Rattle.asl_formats.specs.Forms as F
-use Rattle.asl_formats.specs.Nodes.{node_tree}
+use Rattle.asl_prints.specs.Forms as F
+use Rattle.asl_prints.specs.Nodes.{node_tree}
 use Rattle.asl_formats.specs.Stands.{stand_of, form_stand}
 use Rattle.asl_formats.specs.declared.stand.Stand.{Stand}
 use Rattle.asl_formats.specs.declared.stand.Stand.TheVariants as S
-use Rattle.asl_formats.specs.Plans.{optional, while_plan, is_steppable, is_filled, print_plan, spread, formed_plan, formed_args, formed_plans, formed_body}
-use Rattle.asl_formats.specs.PlanPass.{backward_plans, placed, spread_all}
+use Rattle.asl_prints.specs.Plans.{optional, while_plan, is_steppable, is_filled, print_plan, spread, formed_plan, formed_args, formed_plans, formed_body}
+use Rattle.asl_formats.specs.PlanPass.{backward_plans, spread_all}
+use Rattle.asl_prints.specs.PlanParts.{placed}
 use Rattle.asl_formats.proofs.StandForms.{stand_form}
 use Rattle.asl_formats.proofs.Standing.{loop_not, text_not}
-use Rattle.asl_formats.proofs.PlanTrees.{Stands, StandAll, nodes_stand, filled_stand, steppable_stands}
-use Rattle.asl_formats.proofs.PlanNodes.{join_none, join_assoc, no_nodes, node_first, same_place}
+use Rattle.asl_prints.proofs.PlanTrees.{Stands, StandAll, nodes_stand, filled_stand, steppable_stands}
+use Rattle.asl_prints.proofs.PlanNodes.{join_none, join_assoc, no_nodes, node_first, same_place}
 
 pub pushed : (old new : List Node) (node : Node) → new ≡ old ++ node ∷ [] → backward_plans new ≡ plan node.place (plan_of node.term) (backward_plans old)
 pushed old new node e = ap backward_plans e ∙ ap plans_of (reverse-append old (node ∷ [])) ∙ node_first node (reverse old)

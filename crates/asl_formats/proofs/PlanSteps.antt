@@ -11,13 +11,14 @@ use Rattle.asl_tree.specs.Tree.{At, Tree, Trees, no_trees, tree}
 use Rattle.asl_tree.specs.View.{form, tree_of, trees_of}
 use Rattle.asl_shape.specs.Plans.{Plan, a_name, a_unit, a_call, a_form, Plans, no_plans, plan, join, plan_of, plans_of}
 use Rattle.asl_shape.proofs.Plans.{plan_form}
-use Rattle.asl_formats.specs.Nodes.{goes_in, is_next}
-use Rattle.asl_formats.specs.Plans.{stepped, stepped_all, steps_before}
-use Rattle.asl_formats.specs.PlanPass.{is_continue, placed}
-use Rattle.asl_formats.proofs.Layers.{is_form, no_form}
+use Rattle.asl_prints.specs.Nodes.{goes_in}
+use Rattle.asl_formats.specs.Steps.{is_next}
+use Rattle.asl_prints.specs.Plans.{stepped, stepped_all, steps_before}
+use Rattle.asl_prints.specs.PlanParts.{is_continue, placed}
+use Rattle.asl_prints.proofs.Layers.{is_form, no_form}
 use Rattle.asl_formats.proofs.StepForms.{other_form}
-use Rattle.asl_formats.proofs.PlanTrees.{Stands, StandAll, nodes_stand}
-use Rattle.asl_formats.proofs.PlanNodes.{join_none, join_assoc, no_nodes, behind, no_taken, all_taken, taken_next, same_place}
+use Rattle.asl_prints.proofs.PlanTrees.{Stands, StandAll, nodes_stand}
+use Rattle.asl_prints.proofs.PlanNodes.{join_none, join_assoc, no_nodes, behind, no_taken, all_taken, taken_next, same_place}
 
 pub plans_none : (front nodes : List Node) → plans_of front ≡ join (plans_of front) (plans_of (take 0 nodes))
 plans_none front nodes = sym (ap (join (plans_of front)) (no_taken nodes) ∙ join_none (plans_of front))

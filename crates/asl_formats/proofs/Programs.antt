@@ -9,13 +9,13 @@ use Rattle.asl_tree.specs.declared.term.Term as D
 use Rattle.asl_tree.specs.declared.term.Term.TheVariants as V
 use Rattle.asl_tree.specs.Tree.{At, Call, Trees, no_trees, tree}
 use Rattle.asl_tree.specs.View.{form, tree_of, trees_of}
-use Rattle.asl_formats.specs.Forms.{followed, formed, formed_all, formed_args, spread}
-use Rattle.asl_formats.specs.Nodes.{node_tree, nodes_size, term_size}
+use Rattle.asl_prints.specs.Forms.{followed, formed, formed_all, formed_args, spread}
+use Rattle.asl_prints.specs.Nodes.{node_tree, nodes_size, term_size}
 use Rattle.asl_formats.specs.Pass.{backwards, formed_body, spread_all}
 use Rattle.asl_formats.specs.Stands.{stand_of}
 use Rattle.asl_formats.specs.declared.stand.Stand.{Stand}
 use Rattle.asl_formats.specs.declared.stand.Stand.TheVariants as S
-use Rattle.asl_formats.proofs.Nodes.{form_tree, call_tree}
+use Rattle.asl_prints.proofs.Nodes.{form_tree, call_tree}
 use Rattle.asl_formats.proofs.FormedForms.{kept_form}
 use Rattle.asl_formats.proofs.Stepping.{followed_none}
 use Rattle.asl_formats.proofs.Standing.{loop_spread, text_spread, itself_spread}

@@ -1,5 +1,5 @@
 -- The numbers of copies that have their own.
-use Rattle.std.proofs.Common.{◌≡◌, ℕ, Bool, true, false, zero, suc, ◌+◌, ◌<◌, List, [], ◌∷◌, ◌++◌, append_assoc, append-nil, length, take, get_or, Vec, Global, Option, Some, None, refl, sym, ap, ◌∙◌, arith}
+use Rattle.std.proofs.Common.{◌≡◌, ℕ, Bool, true, false, zero, suc, ◌+◌, ◌<◌, List, [], ◌∷◌, ◌++◌, append_assoc, append-nil, length, take, get_or, Vec, Global, Option, None, refl, sym, ap, ◌∙◌, arith}
 use Rattle.asl_tree.specs.declared.path.Path.{Path}
 use Rattle.asl_tree.specs.declared.term.Op.{Op}
 use Rattle.asl_tree.specs.declared.term.Node.{Node}
@@ -7,9 +7,9 @@ use Rattle.asl_tree.specs.declared.term.Term.{Term}
 use Rattle.asl_tree.specs.declared.term.Term as D
 use Rattle.asl_tree.specs.declared.term.Term.TheVariants as V
 use Rattle.asl_shape.specs.Plans.{plans_of}
-use Rattle.asl_formats.specs.Numbers.{anew, numbers_in, numbers_of, number_behind, numbered, next_behind}
-use Rattle.asl_formats.proofs.NodeNumbers.{numbers_form, numbers_call, one_number, numbers_joined, taken_next, no_taken, no_numbers, numbered_joined, behind_joined}
-use Rattle.asl_formats.proofs.PlanNodes.{no_nodes as no_nodes_plans, no_taken as no_taken_plans}
+use Rattle.asl_prints.specs.Numbers.{anew, numbers_in, numbers_of, number_behind, numbered, next_behind}
+use Rattle.asl_prints.proofs.NodeNumbers.{numbers_form, numbers_call, one_number, numbers_joined, taken_next, no_taken, no_numbers, numbered_joined, behind_joined}
+use Rattle.asl_prints.proofs.PlanNodes.{no_nodes as no_nodes_plans, no_taken as no_taken_plans}
 
 pub anew_joined : (ms ns : List ℕ) → anew (ms ++ ns) ≡ anew ms ++ anew ns
 anew_joined [] ns = refl

@@ -1,31 +1,34 @@
 -- Nodes with the steps before each Continue, as trees that are whole or bare.
 use Rattle.std.proofs.Common.{◌≡◌, ℕ, zero, suc, ◌+◌, ◌<◌, ◌≤◌, Bool, true, false, List, [], ◌∷◌, ◌++◌, length, take, get_or, Vec, Global, refl, sym, ap, ◌∙◌, subst, arith}
-use Rattle.std.specs.Prelude.{if◌then◌else◌, ◌&&◌, ◌||◌, not}
+use Rattle.std.specs.Prelude.{◌&&◌, ◌||◌, not}
 use Rattle.asl_tree.specs.declared.term.Control.TheVariants as Control
 use Rattle.asl_tree.specs.declared.term.Op.{Op}
 use Rattle.asl_tree.specs.declared.term.Node.{Node}
 use Rattle.asl_tree.specs.declared.term.Term.{Term}
 use Rattle.asl_tree.specs.declared.term.Term as D
-use Rattle.asl_tree.specs.Tree.{At, Tree, Omitted, For, If, ElseIf, Else, While, Switch, Case, Default, Trees, no_trees, tree}
+use Rattle.asl_tree.specs.Tree.{At, Tree, If, ElseIf, Else, While, Switch, Case, Default, Trees, no_trees, tree}
 use Rattle.asl_tree.specs.View.{form, tree_of, trees_of}
 use Rattle.iasl_messages.specs.declared.place.Place.{Place}
-use Rattle.asl_shape.specs.Plans.{Plan, omitted, a_form, Plans, no_plans, plan, plan_of, plans_of}
+use Rattle.asl_shape.specs.Plans.{Plan, omitted, Plans, no_plans, plan, plan_of, plans_of}
 use Rattle.asl_shape.proofs.Plans.{plan_form}
-use Rattle.asl_formats.specs.Forms.{followed, optional, stepped, stepped_all, while_tree, spread}
-use Rattle.asl_formats.specs.Nodes.{goes_in, node_tree, steps_before, is_next, stepped_body, for_parts, CanStep, IsLoop}
+use Rattle.asl_prints.specs.Forms.{followed, optional, stepped, stepped_all, spread}
+use Rattle.asl_prints.specs.Nodes.{goes_in, node_tree}
+use Rattle.asl_formats.specs.Steps.{steps_before, is_next, stepped_body, for_parts, IsLoop}
 use Rattle.asl_formats.specs.Bare.{bare, bare_all, shown, shown_term}
 use Rattle.asl_formats.specs.Plain.{is_plain, are_plain, is_third_plain, has_plain_step, MayRenew}
-use Rattle.asl_formats.specs.Plans as P
-use Rattle.asl_formats.specs.PlanPass.{placed}
+use Rattle.asl_prints.specs.Plans as P
+use Rattle.asl_prints.specs.PlanParts.{placed}
 use Rattle.asl_formats.proofs.Loops.{first_true}
-use Rattle.asl_formats.proofs.Nodes.{form_tree, behind_all}
-use Rattle.asl_formats.proofs.Layers.{is_form, no_form, flat_stepped, braces_in, braces_out}
+use Rattle.asl_prints.proofs.Nodes.{form_tree, behind_all}
+use Rattle.asl_prints.proofs.Layers.{no_form}
+use Rattle.asl_formats.proofs.SteppedTerms.{flat_stepped, braces_in, braces_out}
 use Rattle.asl_formats.proofs.StepForms.{stepped_form}
 use Rattle.asl_formats.proofs.Stepping.{followed_none, steps_of_next, steps_of_other, taken_next, all_taken, none_taken, stepped_taken}
 use Rattle.asl_formats.proofs.Fors.{loop_row, spread_parts, three_items, three_nodes, not_loop}
-use Rattle.asl_formats.proofs.PlanTrees.{Stands}
+use Rattle.asl_prints.proofs.PlanTrees.{Stands}
 use Rattle.asl_formats.proofs.PlanPrograms.{node_stands}
 use Rattle.asl_formats.proofs.BareForms.{bare_stands}
+use Rattle.asl_formats.proofs.PlanSteps.{plans_before, plans_before_other}
 
 second_true : (a b : Bool) → (a && b) ≡ true → b ≡ true
 second_true true b e = e
@@ -220,3 +223,6 @@ loop_shown whole node op args body xs ys made e x y h m =
 
 pub no_loop_shown : (whole : Bool) (node : Node) (made : Trees) → ((o : Op) (v w : Vec Node Global) → node.term ≡ D.Form o v w → ⊥) → IsLoop node.term → shown whole made ≡ shown whole (spread (node_tree node) no_trees)
 no_loop_shown whole node made not_form h = absurd (not_loop node.term not_form h)
+
+-- steps where a Continue follows, as trees and as plans
+pub ruleset before_rules = (plans_before, plans_before_other, before_next, before_other)

@@ -4,7 +4,7 @@ use Rattle.std.specs.Prelude.{if◌then◌else◌, ◌&&◌, ◌||◌, not}
 use Rattle.asl_tree.specs.Formats.{cut}
 use Rattle.asl_tree.specs.Tree.{Tree, Omitted, Call, Container', Scope, If, ElseIf, Else, For, Print, Switch, Case, Default, Continue, Trees, no_trees, tree}
 use Rattle.asl_meaning.specs.Continues.{has_continue, have_continue}
-use Rattle.asl_formats.specs.Forms.{followed, optional, for_trees, print_tree, while_tree, is_expression, is_given, are_given, are_filled, is_filled, is_steppable, has_far_continue, have_far_continue, spread, formed, formed_args, formed_all}
+use Rattle.asl_prints.specs.Forms.{followed, optional, for_trees, print_tree, while_tree, is_expression, is_given, are_given, are_filled, is_filled, is_steppable, has_far_continue, have_far_continue, spread, formed, formed_args, formed_all}
 use Rattle.asl_formats.proofs.Loops.{first_true}
 
 both : (a a' b b' : Bool) → a ≡ a' → b ≡ b' → (a && b) ≡ (a' && b')

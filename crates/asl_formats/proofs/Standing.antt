@@ -9,18 +9,32 @@ use Rattle.asl_tree.specs.declared.term.Term.{Term}
 use Rattle.asl_tree.specs.declared.term.Term as D
 use Rattle.asl_tree.specs.Formats.{cut}
 use Rattle.asl_tree.specs.Tree.{At, Tree, String, For, Print, Omitted, Trees, no_trees, tree}
-use Rattle.asl_tree.specs.View.{tree_of, row_trees, trees_of}
-use Rattle.asl_formats.specs.Forms.{are_filled, are_given, is_given, is_expression, is_filled, is_steppable, have_far_continue, for_trees, followed, print_tree, spread}
-use Rattle.asl_formats.specs.Nodes.{node_tree, none_in, AreGiven, IsGiven, CanStep, CanPrint, IsLoop, IsPrint, Prints}
-use Rattle.asl_formats.specs.Texts.{all_texts, is_text}
-use Rattle.asl_formats.specs.Stands.{bare_stand, expresses, behind_first, form_stand, loop_if, loop_stand, stand_of, text_if, text_stand}
+use Rattle.asl_tree.specs.View.{fits, tree_of, row_trees, trees_of}
+use Rattle.asl_prints.specs.Forms.{are_filled, are_given, is_given, is_expression, is_filled, is_steppable, have_far_continue, for_trees, followed, print_tree, spread}
+use Rattle.asl_prints.specs.Nodes.{node_tree, none_in, AreGiven, IsGiven, CanPrint, IsPrint, Prints}
+use Rattle.asl_formats.specs.Steps.{CanStep, IsLoop}
+use Rattle.asl_prints.specs.Texts.{is_text}
+use Rattle.asl_formats.specs.Stands.{bare_stand, behind_first, form_stand, loop_if, loop_stand, stand_of, text_if, text_stand}
+use Rattle.asl_prints.specs.Fits.{expresses}
 use Rattle.asl_formats.specs.declared.stand.Stand.{Stand}
 use Rattle.asl_formats.specs.declared.stand.Stand.TheVariants as S
-use Rattle.asl_formats.proofs.Nodes.{form_tree}
-use Rattle.asl_formats.proofs.Expressions.{value_form}
+use Rattle.asl_prints.proofs.Nodes.{form_tree}
+use Rattle.asl_prints.proofs.Expressions.{value_form}
 use Rattle.asl_formats.proofs.StandForms.{stand_form}
-use Rattle.asl_formats.proofs.TextForms.{no_text_form}
-use Rattle.asl_formats.proofs.Layers.{is_form, no_form}
+use Rattle.asl_prints.proofs.TextForms.{no_text_form}
+use Rattle.asl_prints.proofs.Layers.{is_form, no_form}
+use Rattle.asl_prints.proofs.Leaving.{nat_eq_suc}
+use Rattle.asl_operators.specs.Letters.{letters_as}
+use Rattle.asl_operators.specs.declared.letter.Letter.{Letter as CodeLetter}
+
+-- ---- how many
+
+pub fit_long : (letters : List CodeLetter) (nodes : List Node) → fits (letters_as letters) (trees_of nodes) ≡ nat_eq (length nodes) (length letters)
+unfolding trees_of
+fit_long [] [] = sym (let e : nat_eq 0 0 ≡ true = grind (arith, nat_tests) in e)
+fit_long [] (node ∷ nodes) = sym (let e : nat_eq (suc (length nodes)) 0 ≡ false = grind (arith, nat_tests) in e)
+fit_long (letter ∷ letters) [] = sym (let e : nat_eq 0 (suc (length letters)) ≡ false = grind (arith, nat_tests) in e)
+fit_long (letter ∷ letters) (node ∷ nodes) = fit_long letters nodes ∙ sym (nat_eq_suc (length nodes) (length letters))
 
 -- ---- expressions
 
@@ -96,25 +110,6 @@ pub many_stand : (args : List Node) (body : Trees) → 4 ≤ length args → S.I
 many_stand args body h = other_stands args body (λ e. omega (arith, h, e))
 
 -- ---- a format and its arguments
-
-nat_eq_suc : (m n : ℕ) → nat_eq (suc m) (suc n) ≡ nat_eq m n
-nat_eq_suc m n = by_same (nat_eq m n) refl
-  where
-    by_same : (b : Bool) → nat_eq m n ≡ b → nat_eq (suc m) (suc n) ≡ b
-    by_same true h = grind (arith, nat_tests, h)
-    by_same false h = grind (arith, nat_tests, h)
-
-filled_long : (texts : List (List ℕ)) (args : List Node) → are_filled texts (trees_of args) ≡ nat_eq (length texts) (length args)
-unfolding trees_of
-filled_long [] [] = sym (let e : nat_eq 0 0 ≡ true = grind (arith, nat_tests) in e)
-filled_long [] (node ∷ args) = sym (let e : nat_eq 0 (suc (length args)) ≡ false = grind (arith, nat_tests) in e)
-filled_long (text ∷ texts) [] = sym (let e : nat_eq (suc (length texts)) 0 ≡ false = grind (arith, nat_tests) in e)
-filled_long (text ∷ texts) (node ∷ args) = filled_long texts args ∙ sym (nat_eq_suc (length texts) (length args))
-
-pub filled_is : (format : List ℕ) (args : List Node) (texts behind : List (List ℕ)) (given is_long : Bool) → texts ≡ all_texts format → behind ≡ drop 1 texts → given ≡ are_given (trees_of args) → is_long ≡ nat_eq (length behind) (length args) → (given && is_long) ≡ is_filled format (trees_of args)
-filled_is format args texts behind given is_long t b g l =
-    ap (λ c. c && is_long) g
-    ∙ ap (λ c. are_given (trees_of args) && c) (l ∙ ap (λ ts. nat_eq (length ts) (length args)) (b ∙ ap (drop 1) t) ∙ sym (filled_long (cut format).1 args))
 
 text_tree : (node : Node) (text : List ℕ) → node.term ≡ D.Text text → node_tree node ≡ String text
 unfolding tree_of
@@ -355,3 +350,6 @@ itself_spread (For start test step body) rest e =
 itself_spread (Print place format args) rest e =
     sym (ap (λ c. if c then tree (print_tree place format args) rest else tree (Print place format args) rest) (text_not (is_filled format args) e))
 itself_spread t rest e = refl
+
+-- whether a term is an expression
+pub ruleset expression_rules = (expression_form, fill_is, unit_is, skip_is, offset_is, access_is, value_is)

@@ -1,5 +1,5 @@
 -- The numbers of the nodes of a For's body, and of the copies of its step.
-use Rattle.std.proofs.Common.{◌≡◌, ℕ, zero, suc, ◌+◌, ◌<◌, ◌≤◌, Bool, true, false, List, [], ◌∷◌, ◌++◌, append_assoc, append-nil, length, take, get_or, Vec, Global, Option, Some, None, refl, sym, ap, ◌∙◌, subst, arith}
+use Rattle.std.proofs.Common.{◌≡◌, ℕ, zero, suc, ◌+◌, ◌<◌, ◌≤◌, Bool, true, false, List, [], ◌∷◌, ◌++◌, append_assoc, append-nil, length, take, get_or, Vec, Global, Some, None, refl, sym, ap, ◌∙◌, subst, arith}
 use Rattle.std.specs.Prelude.{if◌then◌else◌, ◌||◌, not}
 use Rattle.asl_tree.specs.declared.term.Control.TheVariants as Control
 use Rattle.asl_tree.specs.declared.term.Op.{Op}
@@ -8,17 +8,18 @@ use Rattle.asl_tree.specs.declared.term.Term.{Term}
 use Rattle.asl_tree.specs.declared.term.Term as D
 use Rattle.asl_tree.specs.Tree.{At}
 use Rattle.asl_tree.specs.View.{tree_of}
-use Rattle.asl_shape.specs.Plans.{plan_of}
-use Rattle.asl_formats.specs.Nodes.{goes_in, is_next, IsLoop}
-use Rattle.asl_formats.specs.PlanPass.{is_continue}
-use Rattle.asl_formats.specs.Numbers.{Mark, Own, Step, numbers_in, row_numbers, numbers_of, number_behind, kept, anew, numbered, next_behind, own, step_before, stepped_in, stepped_row, stepped_nodes, steps_kept, optional_numbers, for_numbers, form_numbers}
+use Rattle.asl_prints.specs.Nodes.{goes_in}
+use Rattle.asl_formats.specs.Steps.{is_next, IsLoop}
+use Rattle.asl_prints.specs.Numbers.{Mark, Own, Step, numbers_in, row_numbers, numbers_of, number_behind, kept, anew, numbered, next_behind, own, step_before, stepped_in, stepped_row, stepped_nodes, steps_kept, optional_numbers, for_numbers, form_numbers}
 use Rattle.asl_formats.specs.StepNumbers.{stands_behind, Advances}
 use Rattle.asl_formats.specs.declared.steps.Copies.{Copies}
-use Rattle.asl_formats.proofs.Layers.{is_form, no_form}
-use Rattle.asl_formats.proofs.Nodes.{args_row, body_row, take_next}
+use Rattle.asl_prints.proofs.Layers.{is_form, no_form}
+use Rattle.asl_prints.proofs.Nodes.{args_row, body_row, take_next}
 use Rattle.asl_formats.proofs.Fors.{loop_row, three_items, not_loop}
 use Rattle.asl_formats.proofs.PlanSteps.{node_next}
-use Rattle.asl_formats.proofs.NodeNumbers.{rows, numbers_form, no_numbers, first_numbers, one_number, numbers_joined, numbered_joined, behind_joined, numbered_kept, behind_kept}
+use Rattle.asl_prints.proofs.NodeNumbers.{rows, numbers_form, no_numbers, one_number, numbers_joined, numbered_joined, behind_joined, numbered_kept, behind_kept}
+use Rattle.asl_formats.proofs.Fors as F
+use Rattle.asl_formats.proofs.PlanFors as L
 
 -- ---- marks one after another
 
@@ -259,3 +260,9 @@ loop_numbers id node op args body xs ys made e x y h m =
 
 pub no_loop_numbers : (id : ℕ) (node : Node) (made : List ℕ) → ((o : Op) (v w : Vec Node Global) → node.term ≡ D.Form o v w → ⊥) → IsLoop node.term → made ≡ numbered id (form_numbers node.term)
 no_loop_numbers id node made not_form h = absurd (not_loop node.term not_form h)
+
+-- a term that may be left out, as trees and as plans, with its numbers
+pub ruleset optional_rules = (F.optional_none, F.optional_one, L.optional_none, L.optional_one, optional_none, optional_one)
+
+-- fewer or more arguments than three
+pub ruleset parts_rules = (L.few_made, L.many_made, few_numbers, many_numbers)

@@ -3,9 +3,10 @@ use Rattle.std.proofs.Common.{◌≡◌, ℕ, zero, suc, ◌+◌, ◌<◌, Bool,
 use Rattle.asl_tree.specs.declared.term.Node.{Node}
 use Rattle.asl_tree.specs.Tree.{At, Tree, Continue, Trees, no_trees, tree}
 use Rattle.asl_tree.specs.View.{tree_of, trees_of}
-use Rattle.asl_formats.specs.Forms.{followed, stepped, stepped_all}
-use Rattle.asl_formats.specs.Nodes.{node_tree, steps_before, is_next}
-use Rattle.asl_formats.proofs.Nodes.{behind_all, take_next}
+use Rattle.asl_prints.specs.Forms.{followed, stepped, stepped_all}
+use Rattle.asl_prints.specs.Nodes.{node_tree}
+use Rattle.asl_formats.specs.Steps.{steps_before, is_next}
+use Rattle.asl_prints.proofs.Nodes.{behind_all, take_next}
 
 pub followed_assoc : (a b c : Trees) → followed (followed a b) c ≡ followed a (followed b c)
 followed_assoc no_trees b c = refl

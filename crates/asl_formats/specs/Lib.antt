@@ -1,13 +1,8 @@
 pub mod Bare
-pub mod Forms
-pub mod Nodes
-pub mod Numbers
 pub mod Pass
 pub mod Plain
 pub mod PlanPass
-pub mod Plans
 pub mod Present
-pub mod PrintNumbers
 pub mod Stands
 pub mod StepNumbers
-pub mod Texts
+pub mod Steps

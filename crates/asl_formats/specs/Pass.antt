@@ -1,5 +1,5 @@
 -- The nodes of a whole program with what stands for each For and for what prints.
-use Rattle.std.specs.Prelude.{Bool, true, false, List, reverse}
+use Rattle.std.specs.Prelude.{List, reverse}
 use Rattle.asl_tree.specs.declared.term.Declaration.TheVariants as Declaration
 use Rattle.asl_tree.specs.declared.term.Control.TheVariants as Control
 use Rattle.asl_tree.specs.declared.term.Special.TheVariants as Special
@@ -7,25 +7,7 @@ use Rattle.asl_tree.specs.declared.term.Op.{Op}
 use Rattle.asl_tree.specs.declared.term.Node.{Node}
 use Rattle.asl_tree.specs.Tree.{Trees, no_trees, tree}
 use Rattle.asl_tree.specs.View.{trees_of}
-use Rattle.asl_formats.specs.Forms.{formed_args, formed_all, spread}
-
--- whether terms stand in the braces of a form
-abbrev pub has_terms : Op → Bool
-has_terms (Op.Declaration Declaration.Method) = true
-has_terms (Op.Declaration Declaration.Device) = true
-has_terms (Op.Declaration Declaration.ThermalZone) = true
-has_terms (Op.Declaration Declaration.PowerResource) = true
-has_terms (Op.Declaration Declaration.Processor) = true
-has_terms (Op.Declaration Declaration.Scope) = true
-has_terms (Op.Control Control.If) = true
-has_terms (Op.Control Control.ElseIf) = true
-has_terms (Op.Control Control.Else) = true
-has_terms (Op.Control Control.While) = true
-has_terms (Op.Control Control.For) = true
-has_terms (Op.Control Control.Switch) = true
-has_terms (Op.Control Control.Case) = true
-has_terms (Op.Control Control.Default) = true
-has_terms op = false
+use Rattle.asl_prints.specs.Forms.{formed_args, formed_all, spread}
 
 -- what stands in the braces of a form, with what stands for it
 abbrev pub formed_body : Op → Trees → Trees

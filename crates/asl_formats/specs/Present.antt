@@ -4,7 +4,7 @@ use Rattle.asl_tree.specs.declared.term.Control.TheVariants as Control
 use Rattle.asl_tree.specs.declared.term.Special.TheVariants as Special
 use Rattle.asl_tree.specs.declared.term.Op.{Op}
 use Rattle.asl_shape.specs.Plans.{Plan, a_call, a_form, Plans, no_plans, plan}
-use Rattle.asl_formats.specs.Pass.{has_terms}
+use Rattle.asl_prints.specs.Nodes.{has_terms}
 
 abbrev pub is_form : Op → Bool
 is_form (Op.Control Control.For) = true

@@ -1,6 +1,6 @@
 -- How the nodes of a For's body and the copies of its step get their numbers, one after another.
 use Rattle.std.specs.Prelude.{◌≡◌, ℕ, Bool, true, List, [], ◌∷◌, ◌++◌}
-use Rattle.asl_formats.specs.Numbers.{Mark, Own, Step, numbered, next_behind, steps_kept}
+use Rattle.asl_prints.specs.Numbers.{Mark, Own, Step, numbered, next_behind, steps_kept}
 use Rattle.asl_formats.specs.declared.steps.Copies.{Copies}
 
 -- whether the step stands behind some nodes

@@ -4,25 +4,27 @@ ghost use Rattle.asl_tree.specs.Tree.{While, no_trees, tree};
 ghost use Rattle.asl_tree.specs.View.{trees_of};
 ghost use Rattle.asl_shape.specs.Plans.{a_form, join, no_plans, plan, plan_of, plans_of};
 ghost use Rattle.asl_formats.specs.Bare.{bare_all, shown};
-ghost use Rattle.asl_formats.specs.Forms.{followed, optional as optional_trees, spread, stepped_all};
-ghost use Rattle.asl_formats.specs.Nodes.{for_parts, node_tree, DoTheSame, IsLoop};
-ghost use Rattle.asl_formats.specs.Plans.{optional as optional_plans, spread as spread_plans, stepped_all as stepped_plans};
+ghost use Rattle.asl_prints.specs.Forms.{followed, optional as optional_trees, spread, stepped_all};
+ghost use Rattle.asl_formats.specs.Steps.{for_parts, IsLoop};
+ghost use Rattle.asl_prints.specs.Nodes.{node_tree, DoTheSame};
+ghost use Rattle.asl_prints.specs.Plans.{optional as optional_plans, spread as spread_plans, stepped_all as stepped_plans};
 ghost use Rattle.asl_formats.specs.Plain.{has_plain_step, is_plain as plan_is_plain, is_third_plain, MayRenew};
-ghost use Rattle.asl_formats.specs.PlanPass.{for_plans, placed};
-ghost use Rattle.asl_formats.specs.Numbers.{for_numbers, form_numbers, numbered, numbers_of, optional_numbers, stepped_nodes, Step};
+ghost use Rattle.asl_formats.specs.PlanPass.{for_plans};
+ghost use Rattle.asl_prints.specs.PlanParts.{placed};
+ghost use Rattle.asl_prints.specs.Numbers.{for_numbers, form_numbers, numbered, numbers_of, optional_numbers, stepped_nodes, Step};
 ghost use Rattle.asl_formats.specs.StepNumbers.{Advances};
 ghost use Rattle.asl_tree.specs.declared.term.Op.{Op as O};
 ghost use Rattle.asl_tree.specs.declared.term.Control.TheVariants as C;
 
-use crate::copy::copied;
 use crate::plain::is_plain;
 use crate::steps::{Copies, put_steps, with_steps};
+use asl_prints::copy::copied;
 use asl_tree::term::{Control, Node, Op, Term};
 use iasl_messages::place::Place;
 use std::alloc::{AllocError, Global};
 
 // A copy of a term, or nothing where it is left out.
-#[tactic(auto, using(crate::proofs::Fors::optional_none, crate::proofs::Fors::optional_one, crate::proofs::PlanFors::optional_none, crate::proofs::PlanFors::optional_one, crate::proofs::StepNumbers::optional_none, crate::proofs::StepNumbers::optional_one))]
+#[tactic(auto, using(crate::proofs::StepNumbers::optional_rules))]
 fn optional(alloc: Global, node: &Node) -> Result<Vec<Node>, AllocError>
     ensures trees { IfOk result (λ nodes. trees_of nodes.items ≡ optional_trees (node_tree node.now)) }
     ensures plans { IfOk result (λ nodes. plans_of nodes.items ≡ optional_plans node.now.place (plan_of node.now.term)) }
@@ -97,7 +99,7 @@ fn keeps(keep: bool, step: &Node) -> bool
 }
 
 // What stands for the parts of a For: the While has this number, and what is made behind it the next ones.
-#[tactic(auto, using(crate::proofs::PlanFors::few_made, crate::proofs::PlanFors::many_made, crate::proofs::StepNumbers::few_numbers, crate::proofs::StepNumbers::many_numbers))]
+#[tactic(auto, using(crate::proofs::StepNumbers::parts_rules))]
 fn parts(
     alloc: Global,
     keep: bool,
@@ -106,7 +108,8 @@ fn parts(
     args: &[Node],
     body: &[Node],
 ) -> Result<Vec<Node>, AllocError>
-    ensures trees { IfOk result (λ made. shown keep (trees_of made.items) ≡ shown keep (for_parts (trees_of args.now) (trees_of body.now))) }
+    ensures trees { IfOk result
+        (λ made. shown keep (trees_of made.items) ≡ shown keep (for_parts (trees_of args.now) (trees_of body.now))) }
     ensures plans { IfOk result (λ made. plans_of made.items ≡ for_plans place (plans_of args.now) (plans_of body.now)) }
     ensures numbers { keep ≡ false → is_third_plain (plans_of args.now) ≡ true → IfOk result
         (λ made. numbers_of made.items ≡ numbered id (for_numbers args.now body.now)) }

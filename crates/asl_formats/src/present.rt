@@ -5,7 +5,8 @@ ghost use Rattle.asl_formats.specs.Present.{has_form as plan_has_form, have_form
 
 use asl_tree::term::{Control, Declaration, Node, Op, Special, Term};
 
-fn is_form(op: Op) -> bool
+/// Whether a form is a For, a Printf or an Fprintf.
+pub fn is_form(op: Op) -> bool
     ensures { result ≡ op_is_form op }
 {
     matches!(
@@ -14,7 +15,8 @@ fn is_form(op: Op) -> bool
     )
 }
 
-fn holds_terms(op: Op) -> bool
+/// Whether terms stand in the braces of a form, or the elements of a Package, and not bytes or the units of a field.
+pub fn holds_terms(op: Op) -> bool
     ensures { result ≡ op_holds_terms op }
 {
     matches!(

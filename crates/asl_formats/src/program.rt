@@ -1,21 +1,22 @@
 //! A program with what stands for each Printf, Fprintf and For.
 ghost use Rattle.std.specs.Prelude.{◌≡◌, IfOk, OnOk};
 ghost use Rattle.asl_tree.specs.Tree.{At};
-ghost use Rattle.asl_tree.specs.View.{form, tree_of, trees_of};
+ghost use Rattle.asl_tree.specs.View.{tree_of, trees_of};
 ghost use Rattle.asl_shape.specs.Plans.{join, plan_of, plans_of};
-ghost use Rattle.asl_formats.specs.Forms.{followed, formed, formed_all, formed_args, spread};
-ghost use Rattle.asl_formats.specs.Nodes.{node_tree};
+ghost use Rattle.asl_prints.specs.Forms.{followed, formed, formed_all, formed_args, spread};
+ghost use Rattle.asl_prints.specs.Nodes.{node_tree};
 ghost use Rattle.asl_formats.specs.Pass.{backwards, formed_body as body_formed, spread_all};
-ghost use Rattle.asl_formats.specs.Plans.{formed_plan, formed_plans, spread as spread_plans};
-ghost use Rattle.asl_formats.specs.Plans.{formed_args as args_plans, formed_body as body_plans};
-ghost use Rattle.asl_formats.specs.PlanPass.{backward_plans, placed, spread_all as all_plans};
+ghost use Rattle.asl_prints.specs.Plans.{formed_plan, formed_plans, spread as spread_plans};
+ghost use Rattle.asl_prints.specs.Plans.{formed_args as args_plans, formed_body as body_plans};
+ghost use Rattle.asl_formats.specs.PlanPass.{backward_plans, spread_all as all_plans};
+ghost use Rattle.asl_prints.specs.PlanParts.{placed};
 ghost use Rattle.asl_formats.specs.Stands.{stand_of as tree_stand};
 ghost use Rattle.asl_formats.specs.declared.stand.Stand.TheVariants as S;
 
 use crate::for_loop::loop_form;
-use crate::print::{Numbered, stands as print_stands};
 use crate::renew::take_id;
 use crate::stand::{Stand, stand_of};
+use asl_prints::print::{Numbered, stands as print_stands};
 use asl_tree::term::{Control, Declaration, Node, Op, Special, Term};
 use std::alloc::{AllocError, Global};
 
@@ -72,7 +73,8 @@ fn put_text(
 #[tactic(auto, using(crate::proofs::Programs::stands_so, crate::proofs::Programs::itself_put, crate::proofs::PlanPrograms::itself_put))]
 fn put(alloc: Global, made: &mut Vec<Node>, node: Node, next: &mut u32) -> Result<(), AllocError>
     ensures trees { OnOk result (backwards made.new.items ≡ spread (node_tree node) (backwards made.old.items)) }
-    ensures plans { OnOk result (backward_plans made.new.items ≡ spread_plans node.place (plan_of node.term) (backward_plans made.old.items)) }
+    ensures plans { OnOk result
+        (backward_plans made.new.items ≡ spread_plans node.place (plan_of node.term) (backward_plans made.old.items)) }
 {
     match stand_of(alloc, &node.term)? {
         Stand::Loop => {

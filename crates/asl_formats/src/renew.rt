@@ -3,12 +3,12 @@ ghost use Rattle.std.specs.Prelude.{◌≡◌, ◌∷◌, [], ◌++◌, true, If
 ghost use Rattle.asl_tree.specs.View.{trees_of};
 ghost use Rattle.asl_shape.specs.Plans.{join, plan_of, plans_of};
 ghost use Rattle.asl_formats.specs.Bare.{bare_all};
-ghost use Rattle.asl_formats.specs.Forms.{followed};
-ghost use Rattle.asl_formats.specs.Numbers.{anew, next_behind, number_behind, numbered, numbers_in, numbers_of};
+ghost use Rattle.asl_prints.specs.Forms.{followed};
+ghost use Rattle.asl_prints.specs.Numbers.{anew, next_behind, number_behind, numbered, numbers_in, numbers_of};
 ghost use Rattle.asl_formats.specs.Plain.{are_plain};
-ghost use Rattle.asl_formats.specs.PlanPass.{placed};
+ghost use Rattle.asl_prints.specs.PlanParts.{placed};
 
-use crate::copy::{copied_path, copied_term};
+use asl_prints::copy::{copied_path, copied_term};
 use asl_tree::term::{Node, Term};
 use std::alloc::{AllocError, Global};
 
@@ -90,7 +90,8 @@ pub(crate) fn append_renewed(
     ensures trees { are_plain (plans_of nodes.now) ≡ true →
         IfOk result (λ all. bare_all (trees_of all.items) ≡ bare_all (followed (trees_of front.items) (trees_of nodes.now))) }
     ensures plans { IfOk result (λ all. plans_of all.items ≡ join (plans_of front.items) (plans_of nodes.now)) }
-    ensures numbers { IfOk result (λ all. numbers_of all.items ≡ numbers_of front.items ++ numbered next.old (anew (numbers_of nodes.now))) }
+    ensures numbers { IfOk result
+        (λ all. numbers_of all.items ≡ numbers_of front.items ++ numbered next.old (anew (numbers_of nodes.now))) }
     ensures next { IfOk result (λ all. next.new ≡ next_behind next.old (anew (numbers_of nodes.now))) }
 {
     let mut all = front;

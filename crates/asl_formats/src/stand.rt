@@ -1,22 +1,21 @@
 //! What stands for a term.
-ghost use Rattle.std.specs.Prelude.{◌≡◌, ◌&&◌, length, nat_eq, IfOk};
+ghost use Rattle.std.specs.Prelude.{◌≡◌, IfOk};
 ghost use Rattle.acpi_values.specs.Operators.{row_of};
 ghost use Rattle.asl_tree.specs.Tree.{At, tree};
 ghost use Rattle.asl_tree.specs.View.{fits, tree_of, trees_of};
-ghost use Rattle.asl_formats.specs.Forms.{are_given as trees_given, is_expression as tree_expresses, is_filled, is_given as tree_given};
-ghost use Rattle.asl_formats.specs.Nodes.{node_tree};
-ghost use Rattle.asl_formats.specs.Stands.{bare_stand as bare_stands, expresses, form_stand as form_stands, loop_if as loop_when};
+ghost use Rattle.asl_prints.specs.Forms.{is_expression as tree_expresses};
+ghost use Rattle.asl_prints.specs.Nodes.{node_tree};
+ghost use Rattle.asl_formats.specs.Stands.{bare_stand as bare_stands, form_stand as form_stands, loop_if as loop_when};
+ghost use Rattle.asl_prints.specs.Fits.{expresses};
 ghost use Rattle.asl_formats.specs.Stands.{loop_stand as loop_stands, stand_of as tree_stand, text_if as text_when};
 ghost use Rattle.asl_formats.specs.Stands.{text_stand as text_stands};
 
-use crate::leave::{are, have_far_continue};
-use crate::print::{other_texts, others};
-use crate::steps::{all, is_none};
-use crate::texts::texts_of;
 use acpi_values::operator::Plain;
 use asl_operators::rows::letters;
+use asl_prints::filled::fills;
+use asl_prints::leave::have_far_continue;
+use asl_prints::lists::{all, are, is_none, others};
 use asl_tree::term::{Control, Node, Op, Special, Symbolic, Term};
-use iasl_ports::list::Text;
 use std::alloc::{AllocError, Global};
 
 /// What stands for a term.
@@ -31,7 +30,7 @@ pub(crate) enum Stand {
 }
 
 // Whether there are as many arguments as the operator has operands.
-#[tactic(auto, using(crate::proofs::Leaving::fit_long))]
+#[tactic(auto, using(crate::proofs::Standing::fit_long))]
 fn fit(op: Plain, args: &[Node]) -> bool
     ensures { result ≡ fits (row_of op).operands (trees_of args.now) }
 {
@@ -53,7 +52,7 @@ pub(crate) fn form_expresses(op: Op, args: &[Node], body: &[Node]) -> bool
 }
 
 /// Whether a term is an expression, or left out.
-#[tactic(auto, using(crate::proofs::Standing::expression_form, crate::proofs::Standing::fill_is, crate::proofs::Standing::unit_is, crate::proofs::Standing::skip_is, crate::proofs::Standing::offset_is, crate::proofs::Standing::access_is, crate::proofs::Standing::value_is))]
+#[tactic(auto, using(crate::proofs::Standing::expression_rules))]
 pub fn is_expression(term: &Term) -> bool
     ensures { (at : At) → tree_expresses (tree_of at term.now) ≡ result }
 {
@@ -73,28 +72,6 @@ pub fn is_expression(term: &Term) -> bool
         } => false,
         _ => true,
     }
-}
-
-#[tactic(auto, using(crate::proofs::Leaving::a_given, crate::proofs::Leaving::not_given))]
-fn is_given(term: &Term) -> bool
-    ensures { (at : At) → tree_given (tree_of at term.now) ≡ result }
-{
-    match term {
-        Term::Omitted => false,
-        _ => true,
-    }
-}
-
-#[tactic(auto, using(crate::proofs::Leaving::given_none, crate::proofs::Leaving::given_last))]
-pub fn are_given(nodes: &[Node]) -> bool
-    ensures { result ≡ trees_given (trees_of nodes.now) }
-{
-    for node in nodes {
-        if !is_given(&node.term) {
-            return false;
-        }
-    }
-    true
 }
 
 fn loop_if(holds: bool) -> Stand
@@ -121,28 +98,6 @@ fn loop_stand(args: &[Node], body: &[Node]) -> Stand
         }
         _ => Stand::Itself,
     }
-}
-
-// Whether there are as many texts as nodes.
-fn as_many(texts: &[Text], nodes: &[Node]) -> bool
-    ensures { result ≡ nat_eq (length texts.now) (length nodes.now) }
-{
-    texts.len() == nodes.len()
-}
-
-fn both(first: bool, second: bool) -> bool
-    ensures { result ≡ (first && second) }
-{
-    first && second
-}
-
-// Whether a format has as many arguments as it asks for.
-fn fills(alloc: Global, format: &Text, args: &[Node]) -> Result<bool, AllocError>
-    ensures { IfOk result (λ fills. fills ≡ is_filled format.now (trees_of args.now)) }
-{
-    let texts = texts_of(alloc, format.as_bytes())?;
-    let behind = other_texts(texts.as_slice());
-    Ok(both(are_given(args), as_many(behind, args)))
 }
 
 #[tactic(auto, using(crate::proofs::Standing::text_stands, crate::proofs::Standing::no_text_stands))]

@@ -1,20 +1,22 @@
 //! The terms of a For's body, with the step before each Continue that belongs to the For.
-ghost use Rattle.std.specs.Prelude.{◌≡◌, ◌∷◌, [], ◌++◌, ◌&&◌, ◌||◌, not, true, false, if◌then◌else◌, IfOk};
+ghost use Rattle.std.specs.Prelude.{◌≡◌, ◌∷◌, [], ◌++◌, ◌||◌, not, true, false, if◌then◌else◌, IfOk};
 ghost use Rattle.asl_tree.specs.View.{tree_of, trees_of};
 ghost use Rattle.asl_tree.specs.Tree.{At};
 ghost use Rattle.asl_shape.specs.Plans.{join, plan_of, plans_of};
 ghost use Rattle.asl_formats.specs.Bare.{shown, shown_term};
-ghost use Rattle.asl_formats.specs.Forms.{followed, stepped, stepped_all};
-ghost use Rattle.asl_formats.specs.Nodes.{goes_in as braces_go_in, is_continue as continues, is_next as is_next_tree, node_tree, none_in};
-ghost use Rattle.asl_formats.specs.Nodes.{steps_before};
-ghost use Rattle.asl_formats.specs.Numbers.{numbers_in, numbers_of, own, step_before, stepped_in, stepped_nodes, Own, Step};
-ghost use Rattle.asl_formats.specs.Plans.{stepped as stepped_plan, stepped_all as stepped_plans, steps_before as plans_before};
+ghost use Rattle.asl_prints.specs.Forms.{followed, stepped, stepped_all};
+ghost use Rattle.asl_prints.specs.Nodes.{goes_in as braces_go_in, node_tree};
+ghost use Rattle.asl_formats.specs.Steps.{is_next as is_next_tree, steps_before};
+ghost use Rattle.asl_prints.specs.Numbers.{numbers_in, numbers_of, own, step_before, stepped_in, stepped_nodes, Own, Step};
+ghost use Rattle.asl_prints.specs.Plans.{stepped as stepped_plan, stepped_all as stepped_plans, steps_before as plans_before};
 ghost use Rattle.asl_formats.specs.Plain.{MayRenew};
-ghost use Rattle.asl_formats.specs.PlanPass.{placed};
+ghost use Rattle.asl_prints.specs.PlanParts.{placed};
 ghost use Rattle.asl_formats.specs.StepNumbers.{Advances};
 
-use crate::copy::{copied, copied_all, copied_term};
 use crate::renew::append_renewed;
+use asl_prints::copy::{copied, copied_all, copied_term};
+use asl_prints::leave::is_continue;
+use asl_prints::lists::{all, is_none};
 use asl_tree::term::{Control, Node, Op, Term};
 use std::alloc::{AllocError, Global};
 
@@ -45,27 +47,8 @@ fn goes_in(op: Op) -> bool
     )
 }
 
-pub(crate) fn is_continue(op: Op) -> bool
-    ensures { result ≡ continues op }
-{
-    matches!(op, Op::Control(Control::Continue))
-}
-
-#[tactic(auto, using(crate::proofs::Layers::none_long))]
-pub(crate) fn is_none(nodes: &[Node]) -> bool
-    ensures { result ≡ none_in (trees_of nodes.now) }
-{
-    nodes.len() == 0
-}
-
-pub(crate) fn all(first: bool, second: bool, third: bool) -> bool
-    ensures { result ≡ (first && (second && third)) }
-{
-    first && (second && third)
-}
-
 // Whether a term is a Continue.
-#[tactic(auto, using(crate::proofs::Layers::next_is, crate::proofs::Layers::other_next))]
+#[tactic(auto, using(crate::proofs::SteppedTerms::next_is, crate::proofs::SteppedTerms::other_next))]
 fn is_next(term: &Term) -> bool
     ensures { (at : At) → is_next_tree (tree_of at term.now) ≡ result }
 {
@@ -127,7 +110,7 @@ pub(crate) fn put_steps(
 }
 
 // The steps behind other nodes, where a Continue follows.
-#[tactic(auto, using(crate::proofs::PlanSteps::plans_before, crate::proofs::PlanSteps::plans_before_other, crate::proofs::Shown::before_next, crate::proofs::Shown::before_other))]
+#[tactic(auto, using(crate::proofs::Shown::before_rules))]
 fn before(
     alloc: Global,
     front: Vec<Node>,
@@ -245,7 +228,8 @@ fn stepped_braces(
         (λ made. shown copies.old.keep (trees_of made.items) ≡
         shown copies.old.keep (stepped_all (trees_of steps.now) (trees_of body.now))) }
     ensures outside { braces_go_in op ≡ false → IfOk result (λ made. trees_of made.items ≡ trees_of body.now) }
-    ensures plans { IfOk result (λ made. plans_of made.items ≡ (if braces_go_in op then stepped_plans (plans_of steps.now) (plans_of body.now)
+    ensures plans { IfOk result
+        (λ made. plans_of made.items ≡ (if braces_go_in op then stepped_plans (plans_of steps.now) (plans_of body.now)
         else plans_of body.now)) }
     ensures numbers { copies.old.keep ≡ false → IfOk result
         (λ made. Advances (numbers_of steps.now) copies.old copies.new

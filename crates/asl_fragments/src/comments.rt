@@ -97,6 +97,7 @@ pub fn without_comments(alloc: Global, text: &[u8], in_comment: bool) -> Result<
 /// The fragments of a line, joined, are the line: none of its bytes is lost or comes twice. So a line without
 /// its comments is as long as it was, and each byte stays in its column.
 pub fn fragments_are_the_line()
-    ensures joined { (in_comment : Bool) (text : AList ℕ) → flat_map (λ (piece : Piece). piece.text) (spec.fragments in_comment text) ≡ text }
+    ensures joined { (in_comment : Bool) (text : AList ℕ)
+        → flat_map (λ (piece : Piece). piece.text) (spec.fragments in_comment text) ≡ text }
     ensures long { (in_comment : Bool) (text : AList ℕ) → length (spec.without_comments in_comment text) ≡ length text }
 {}

@@ -96,7 +96,8 @@ fn plain(kind: FragmentKind, length: usize) -> Fragment
 // A block comment before whose inside so many bytes stand.
 fn block(before: usize, text: &[u8]) -> Fragment
     requires { before ≤ 2 }
-    ensures exact { result ≡ spec.made FragmentKind.Comment (before + spec.block_length false text.now) (spec.block_is_open false text.now) }
+    ensures exact { result
+        ≡ spec.made FragmentKind.Comment (before + spec.block_length false text.now) (spec.block_is_open false text.now) }
     ensures forward { 0 < before + length text.now → 0 < result.length }
     ensures within { result.length ≤ before + length text.now }
 {

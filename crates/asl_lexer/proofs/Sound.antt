@@ -12,8 +12,10 @@ use Rattle.asl_lexer.specs.declared.mode.Fault.{Fault}
 use Rattle.asl_lexer.specs.declared.mode.Mode.{Mode}
 use Rattle.asl_lexer.specs.declared.mode.Mode.TheVariants as m
 use Rattle.asl_lexer.specs.Class.{class_of, base_of, takes_equals, doubles, shifts}
-use Rattle.asl_lexer.specs.Scan.{MarkedByte, end_at, bad_character, open_string, bad_escape, with_name, with_number, with_symbol, with_carets, Moved, begin_by, begin, name_by, dot_by, root_by, caret_text, first_of, carets_by, behind_by, digit_by, more, number_by, zero_by, prefix_by, broken_by, broken_escape_by, is_plain, plain_by, text_by, escaped, digits_by, escaped_by, escape_by, coded_by, value_by, escape_digit_by, slash_by, line_by, block_by, star_by, doubled_by, sign_by, shift_by, step, finish, scan}
-use Rattle.asl_lexer.specs.Cut.{Each, Stops, end_of, behind_number, in_name_class, begins_name_class, behind_number_class, in_line_class, is_whitespace_class, in_text_class, behind_slash_class, begins_none_class, begins_sign_class, is_caret_class, is_equals_class, in_line, begins_name, is_caret, is_equals, digit_in, places, IsName, EndsName, no_name_by, no_name_behind, IsNumeral, IsCode, Content, Breaks, Inside, are_two, are_three, Cut, Bad, FailsWith}
+use Rattle.asl_lexer.specs.Scan.{MarkedByte, end_at, bad_character, open_string, bad_escape, with_name, with_number, with_symbol, with_carets, Moved, begin_by, begin, name_by, dot_by, root_by, caret_text, first_of, carets_by, behind_by, digit_by, more, number_by, zero_by}
+use Rattle.asl_lexer.specs.Scan.{prefix_by, broken_by, broken_escape_by, is_plain, plain_by, text_by, escaped, digits_by, escaped_by, escape_by, coded_by, value_by, escape_digit_by, slash_by, line_by, block_by, star_by, doubled_by, sign_by, shift_by, step, finish, scan}
+use Rattle.asl_lexer.specs.Cut.{Each, Stops, end_of, behind_number, in_name_class, begins_name_class, behind_number_class, in_line_class, is_whitespace_class, in_text_class, behind_slash_class, begins_none_class, begins_sign_class, is_caret_class}
+use Rattle.asl_lexer.specs.Cut.{is_equals_class, in_line, begins_name, is_caret, is_equals, digit_in, places, IsName, EndsName, no_name_by, no_name_behind, IsNumeral, IsCode, Content, Breaks, Inside, are_two, are_three, Cut, Bad, FailsWith}
 use Rattle.asl_lexer.specs.Cut as g
 use Rattle.asl_lexer.proofs.Steps.{then_scan}
 use Rattle.asl_lexer.proofs.Bits.{both, left_false, either_true, left_true, neither_true, both_true, never, Stops-all, Each-snoc, value_fits, end_of-snoc, value_min, more_min, plain_min, plain_is, no_three, no_three_unshifted}

@@ -133,8 +133,8 @@ fn over_runs(
 ) -> Result<usize, AllocError>
     requires { length line.now.text < 2 ^ 32 }
     ensures within { IfOk result (λ index. from ≤ index) }
-    ensures passes { IfOk result (λ index. (rest : AList MarkedByte) → AtBreak rest → spec.scan (marks_behind line.now from ++ rest) mode.now
-        tokens.old ≡ spec.scan (marks_behind line.now index ++ rest) mode.now tokens.new) }
+    ensures passes { IfOk result (λ index. (rest : AList MarkedByte) → AtBreak rest → spec.scan
+        (marks_behind line.now from ++ rest) mode.now tokens.old ≡ spec.scan (marks_behind line.now index ++ rest) mode.now tokens.new) }
 {
     let bytes = line.text.as_bytes();
     if from >= bytes.len() {

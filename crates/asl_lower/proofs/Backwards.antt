@@ -20,18 +20,18 @@ use Rattle.acpi_names.proofs.Trees.{form_rows, form_tree}
 use Rattle.asl_lower.specs.Kinds.{flagged, tree_kind, shape_kind}
 use Rattle.asl_lower.specs.Nests.{if_of, first_else, behind_else, joined, backwards}
 use Rattle.asl_lower.specs.Nodes.{before, nested}
-use Rattle.asl_lower.specs.declared.kind.Kind.{Kind}
+use Rattle.asl_lower.specs.declared.kind.TermRole.{TermRole}
 use Rattle.asl_lower.proofs.KindRows.{kind_is}
 use Rattle.asl_lower.proofs.Turns.{any_default}
 
 -- ---- an ElseIf as an If
 
-no_flag : (a b : Bool) (op : Plain) → flagged a (flagged b (Kind.Operated op)) ≡ Kind.ElseIf → ⊥
+no_flag : (a b : Bool) (op : Plain) → flagged a (flagged b (TermRole.Operated op)) ≡ TermRole.ElseIf → ⊥
 no_flag true true op e = absurd cc
 no_flag true false op e = absurd cc
 no_flag false b op e = absurd cc
 
-if_form : (at : At) (op : Op) (args body : Trees) → shape_kind (OfForm op args body) ≡ Kind.ElseIf → form at (Op.Control Control.If) args body ≡ if_of (form at op args body)
+if_form : (at : At) (op : Op) (args body : Trees) → shape_kind (OfForm op args body) ≡ TermRole.ElseIf → form at (Op.Control Control.If) args body ≡ if_of (form at op args body)
 if_form at (Op.Control Control.ElseIf) (tree test no_trees) body e = refl
 if_form at (Op.Control Control.ElseIf) no_trees body e = absurd cc
 if_form at (Op.Control Control.ElseIf) (tree t (tree u us)) body e = absurd cc
@@ -40,7 +40,7 @@ if_form at (Op.Control Control.Else) (tree t ts) body e = absurd cc
 if_form at (Op.Symbolic (Symbolic.Operator op)) args body e = absurd (no_flag (are 0 body && fits (row_of op).operands args) (takes_target op) op e)
 if_form at _ args body e = absurd cc
 
-pub if_is : (at : At) (op : Op) (args body : Vec Node Global) (t : Term) → t ≡ D.Form op args body → shape_kind (term_shape t) ≡ Kind.ElseIf → tree_of at (D.Form (Op.Control Control.If) args body) ≡ if_of (tree_of at t)
+pub if_is : (at : At) (op : Op) (args body : Vec Node Global) (t : Term) → t ≡ D.Form op args body → shape_kind (term_shape t) ≡ TermRole.ElseIf → tree_of at (D.Form (Op.Control Control.If) args body) ≡ if_of (tree_of at t)
 if_is at op args body t e k =
     form_tree at (Op.Control Control.If) args body
     ∙ if_form at op (trees_of args.items) (trees_of body.items) (sym (ap shape_kind (form_rows op args body)) ∙ sym (ap (λ t. shape_kind (term_shape t)) e) ∙ k)
@@ -73,48 +73,48 @@ joined_none (tree t ts) = ap (tree t) (joined_none ts)
 
 -- ---- the Else that stands first
 
-else_rest : (t : Tree) (rest : Trees) → tree_kind t ≡ Kind.Else → behind_else (tree t rest) ≡ rest
+else_rest : (t : Tree) (rest : Trees) → tree_kind t ≡ TermRole.Else → behind_else (tree t rest) ≡ rest
 else_rest (Else body) rest e = refl
 else_rest (T.Operated op args) rest e = absurd (no_operated (takes_target op) op e)
   where
-    no_operated : (c : Bool) (op : Plain) → flagged c (Kind.Operated op) ≡ Kind.Else → ⊥
+    no_operated : (c : Bool) (op : Plain) → flagged c (TermRole.Operated op) ≡ TermRole.Else → ⊥
     no_operated true op e = absurd cc
     no_operated false op e = absurd cc
 else_rest _ rest e = absurd cc
 
-else_first : (t : Tree) (rest : Trees) → tree_kind t ≡ Kind.Else → first_else (tree t rest) ≡ tree t no_trees
+else_first : (t : Tree) (rest : Trees) → tree_kind t ≡ TermRole.Else → first_else (tree t rest) ≡ tree t no_trees
 else_first (Else body) rest e = refl
 else_first (T.Operated op args) rest e = absurd (no_operated (takes_target op) op e)
   where
-    no_operated : (c : Bool) (op : Plain) → flagged c (Kind.Operated op) ≡ Kind.Else → ⊥
+    no_operated : (c : Bool) (op : Plain) → flagged c (TermRole.Operated op) ≡ TermRole.Else → ⊥
     no_operated true op e = absurd cc
     no_operated false op e = absurd cc
 else_first _ rest e = absurd cc
 
-other_rest : (t : Tree) (rest : Trees) → (tree_kind t ≡ Kind.Else → ⊥) → behind_else (tree t rest) ≡ tree t rest
+other_rest : (t : Tree) (rest : Trees) → (tree_kind t ≡ TermRole.Else → ⊥) → behind_else (tree t rest) ≡ tree t rest
 other_rest (Else body) rest never = absurd (never refl)
 other_rest t rest never = refl
 
-other_first : (t : Tree) (rest : Trees) → (tree_kind t ≡ Kind.Else → ⊥) → first_else (tree t rest) ≡ no_trees
+other_first : (t : Tree) (rest : Trees) → (tree_kind t ≡ TermRole.Else → ⊥) → first_else (tree t rest) ≡ no_trees
 other_first (Else body) rest never = absurd (never refl)
 other_first t rest never = refl
 
 -- a node by its kind
-pub kind_tree : (node : Node) (k : Kind) → k ≡ shape_kind (term_shape node.term) → tree_kind (node_tree node) ≡ k
+pub kind_tree : (node : Node) (k : TermRole) → k ≡ shape_kind (term_shape node.term) → tree_kind (node_tree node) ≡ k
 kind_tree node k e = kind_is (record { id = node.id; place = node.place }) node.term ∙ sym e
 
-pub else_moved : (old new : List Node) (node : Node) → old ≡ new ++ node ∷ [] → tree_kind (node_tree node) ≡ Kind.Else → backwards new ≡ behind_else (backwards old)
+pub else_moved : (old new : List Node) (node : Node) → old ≡ new ++ node ∷ [] → tree_kind (node_tree node) ≡ TermRole.Else → backwards new ≡ behind_else (backwards old)
 else_moved old new node e k = sym (ap behind_else (pushed new old node e) ∙ else_rest (node_tree node) (backwards new) k)
 
-pub else_taken : (old new : List Node) (node : Node) (inner more : List Node) → old ≡ new ++ node ∷ [] → more ≡ inner ++ node ∷ [] → tree_kind (node_tree node) ≡ Kind.Else → trees_of more ≡ joined (trees_of inner) (first_else (backwards old))
+pub else_taken : (old new : List Node) (node : Node) (inner more : List Node) → old ≡ new ++ node ∷ [] → more ≡ inner ++ node ∷ [] → tree_kind (node_tree node) ≡ TermRole.Else → trees_of more ≡ joined (trees_of inner) (first_else (backwards old))
 else_taken old new node inner more e f k =
     ap trees_of f ∙ behind_all inner node ∙ ap (joined (trees_of inner)) (sym (ap first_else (pushed new old node e) ∙ else_first (node_tree node) (backwards new) k))
 
-pub none_moved : (old new back : List Node) (node : Node) → old ≡ new ++ node ∷ [] → back ≡ new ++ node ∷ [] → (tree_kind (node_tree node) ≡ Kind.Else → ⊥) → backwards back ≡ behind_else (backwards old)
+pub none_moved : (old new back : List Node) (node : Node) → old ≡ new ++ node ∷ [] → back ≡ new ++ node ∷ [] → (tree_kind (node_tree node) ≡ TermRole.Else → ⊥) → backwards back ≡ behind_else (backwards old)
 none_moved old new back node e f never =
     pushed new back node f ∙ sym (ap behind_else (pushed new old node e) ∙ other_rest (node_tree node) (backwards new) never)
 
-pub none_taken : (old new : List Node) (node : Node) (inner : List Node) → old ≡ new ++ node ∷ [] → (tree_kind (node_tree node) ≡ Kind.Else → ⊥) → trees_of inner ≡ joined (trees_of inner) (first_else (backwards old))
+pub none_taken : (old new : List Node) (node : Node) (inner : List Node) → old ≡ new ++ node ∷ [] → (tree_kind (node_tree node) ≡ TermRole.Else → ⊥) → trees_of inner ≡ joined (trees_of inner) (first_else (backwards old))
 none_taken old new node inner e never =
     sym (ap (joined (trees_of inner)) (ap first_else (pushed new old node e) ∙ other_first (node_tree node) (backwards new) never) ∙ joined_none (trees_of inner))
 
@@ -131,26 +131,26 @@ empty_taken (node ∷ nodes) inner e = absurd (omega (arith, e))
 
 -- ---- a term before others
 
-before_else_if : (t : Tree) (ts : Trees) → tree_kind t ≡ Kind.ElseIf → before t ts ≡ tree (Else (tree (if_of t) (first_else ts))) (behind_else ts)
+before_else_if : (t : Tree) (ts : Trees) → tree_kind t ≡ TermRole.ElseIf → before t ts ≡ tree (Else (tree (if_of t) (first_else ts))) (behind_else ts)
 before_else_if (ElseIf test body) (tree (Else other) rest) e = refl
 before_else_if (ElseIf test body) no_trees e = refl
 before_else_if (ElseIf test body) (tree t rest) e = refl
 before_else_if (T.Operated op args) ts e = absurd (no_operated (takes_target op) op e)
   where
-    no_operated : (c : Bool) (op : Plain) → flagged c (Kind.Operated op) ≡ Kind.ElseIf → ⊥
+    no_operated : (c : Bool) (op : Plain) → flagged c (TermRole.Operated op) ≡ TermRole.ElseIf → ⊥
     no_operated true op e = absurd cc
     no_operated false op e = absurd cc
 before_else_if _ ts e = absurd cc
 
-before_other : (t : Tree) (ts : Trees) → (tree_kind t ≡ Kind.ElseIf → ⊥) → before t ts ≡ tree t ts
+before_other : (t : Tree) (ts : Trees) → (tree_kind t ≡ TermRole.ElseIf → ⊥) → before t ts ≡ tree t ts
 before_other (ElseIf test body) ts never = absurd (never refl)
 before_other t ts never = refl
 
-pub put_other : (old new : List Node) (node : Node) → new ≡ old ++ node ∷ [] → (tree_kind (node_tree node) ≡ Kind.ElseIf → ⊥) → backwards new ≡ before (node_tree node) (backwards old)
+pub put_other : (old new : List Node) (node : Node) → new ≡ old ++ node ∷ [] → (tree_kind (node_tree node) ≡ TermRole.ElseIf → ⊥) → backwards new ≡ before (node_tree node) (backwards old)
 put_other old new node e never = pushed old new node e ∙ sym (before_other (node_tree node) (backwards old) never)
 
 -- an Else is put before nodes from which the Else that stood first was taken
-pub put_nested : (old rest new : List Node) (node made : Node) (args inner : Vec Node Global) (one : Node) (first single : List Node) → shape_kind (term_shape node.term) ≡ Kind.ElseIf
+pub put_nested : (old rest new : List Node) (node made : Node) (args inner : Vec Node Global) (one : Node) (first single : List Node) → shape_kind (term_shape node.term) ≡ TermRole.ElseIf
     → first ≡ [] → single ≡ first ++ one ∷ [] → node_tree one ≡ if_of (node_tree node) → backwards rest ≡ behind_else (backwards old) → trees_of inner.items ≡ joined (trees_of single) (first_else (backwards old))
     → args.items ≡ [] → made.term ≡ D.Form (Op.Control Control.Else) args inner → new ≡ rest ++ made ∷ [] → backwards new ≡ before (node_tree node) (backwards old)
 put_nested old rest new node made args inner one first single k ef es et er ei ea em en =
@@ -167,11 +167,11 @@ put_nested old rest new node made args inner one first single k ef es et er ei e
 
 -- the first so many nodes are none
 abbrev pub AreOthers : List Node → ℕ → Type 0
-AreOthers nodes i = (k : ℕ) → k < i → (e : Node) → shape_kind (term_shape (get_or nodes k e).term) ≡ Kind.ElseIf → ⊥
+AreOthers nodes i = (k : ℕ) → k < i → (e : Node) → shape_kind (term_shape (get_or nodes k e).term) ≡ TermRole.ElseIf → ⊥
 
-pub one_more : (nodes : List Node) (i : ℕ) (node : Node) → i < length nodes → node ≡ get_or nodes i node → AreOthers nodes i → (shape_kind (term_shape node.term) ≡ Kind.ElseIf → ⊥) → AreOthers nodes (i + 1)
+pub one_more : (nodes : List Node) (i : ℕ) (node : Node) → i < length nodes → node ≡ get_or nodes i node → AreOthers nodes i → (shape_kind (term_shape node.term) ≡ TermRole.ElseIf → ⊥) → AreOthers nodes (i + 1)
 one_more nodes i node lt is others never =
-    below_more (λ k. (e : Node) → shape_kind (term_shape (get_or nodes k e).term) ≡ Kind.ElseIf → ⊥) i others
+    below_more (λ k. (e : Node) → shape_kind (term_shape (get_or nodes k e).term) ≡ TermRole.ElseIf → ⊥) i others
     (λ e kind. never (ap (λ (n : Node). shape_kind (term_shape n.term)) (is ∙ any_default nodes i node e lt) ∙ kind))
 
 pub all_others : (nodes : List Node) (i : ℕ) → length nodes ≤ i → AreOthers nodes i → AreOthers nodes (length nodes)

@@ -6,7 +6,7 @@ use Rattle.acpi_values.specs.Paths.{AbsolutePath, is_same_path}
 use Rattle.acpi_values.specs.declared.operator.Plain.{Plain}
 use Rattle.acpi_values.specs.Operators.{row_of}
 use Rattle.acpi_state.specs.Objects.{MethodObject, ContainerObject, Names, root_objects, lookup, ExternalObject}
-use Rattle.asl_tree.specs.Names.{place_of, denoted}
+use Rattle.asl_tree.specs.Names.{declared_path, denoted}
 use Rattle.asl_tree.specs.declared.term.Compound.{Compound}
 use Rattle.asl_tree.specs.Symbols.{compound_operator}
 use Rattle.asl_tree.specs.Tree.{Tree, Omitted, Call, Apply, Buffer, Package, VarPackage, CondRefOf, Return, Name, Method, Container', Scope, If, ElseIf, Else, While, For, Print, OperationRegion, BankField, CreateField, Operated, Assigned, AssignedBy, Trees, no_trees, tree, count, Switch, Case, Default}
@@ -29,8 +29,8 @@ before_declares t ts scope d = refl
 
 mutual
   pub named_declares : (t : Tree) (scope : AbsolutePath) (d : Declarations) → declare (named t) scope d ≡ declare t scope d
-  named_declares (Method at name flags body) scope d = all_declare body (place_of name scope) (with_declared (place_of name scope) (As (MethodObject flags)) d)
-  named_declares (Container' kind at name body) scope d = all_declare body (place_of name scope) (with_declared (place_of name scope) (As (ContainerObject kind)) d)
+  named_declares (Method at name flags body) scope d = all_declare body (declared_path name scope) (with_declared (declared_path name scope) (As (MethodObject flags)) d)
+  named_declares (Container' kind at name body) scope d = all_declare body (declared_path name scope) (with_declared (declared_path name scope) (As (ContainerObject kind)) d)
   named_declares (Scope here at name body) scope d = all_declare body (scope_path d name scope) d
   named_declares (If test body) scope d = all_declare body scope d
   named_declares (ElseIf test body) scope d = all_declare body scope d
@@ -237,8 +237,8 @@ module _ (has : AbsolutePath → Bool) (path : AbsolutePath) where
     term_calls : (t : Tree) → is_term t ≡ true → (scope : AbsolutePath) (d : Declarations) → first_of_all (calls has (named t) scope d) ≡ first_of_all (calls has t scope d)
     term_calls (Return value) e scope d = value_calls value e scope d
     term_calls (Name at name value) e scope d = value_calls value e scope d
-    term_calls (Method at name flags body) e scope d = list_calls body e (place_of name scope) (with_declared (place_of name scope) (As (MethodObject flags)) d)
-    term_calls (Container' kind at name body) e scope d = list_calls body e (place_of name scope) (with_declared (place_of name scope) (As (ContainerObject kind)) d)
+    term_calls (Method at name flags body) e scope d = list_calls body e (declared_path name scope) (with_declared (declared_path name scope) (As (MethodObject flags)) d)
+    term_calls (Container' kind at name body) e scope d = list_calls body e (declared_path name scope) (with_declared (declared_path name scope) (As (ContainerObject kind)) d)
     term_calls (Scope here at name body) e scope d = list_calls body e (scope_path d name scope) d
     term_calls (If test body) e scope d =
         both (calls has (named test) scope d) (calls_all has (named_all body) scope d) (calls has test scope d) (calls_all has body scope d) (value_calls test (first_true (is_value test) (are_terms body) e) scope d) (list_calls body (second_true (is_value test) (are_terms body) e) scope d)

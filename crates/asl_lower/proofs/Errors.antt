@@ -12,11 +12,12 @@ use Rattle.acpi_state.specs.FieldActs.{region_letters, field_letters}
 use Rattle.asl_tree.specs.declared.path.Path.{Path}
 use Rattle.asl_tree.specs.declared.term.Compound.{Compound}
 use Rattle.asl_tree.specs.Symbols.{compound_operator, takes_target}
-use Rattle.asl_tree.specs.Names.{place_of, denoted}
+use Rattle.asl_tree.specs.Names.{declared_path, denoted}
 use Rattle.asl_tree.specs.Tree.{At, Tree, Omitted, Use, Call, Apply, Buffer, Package, VarPackage, CondRefOf, Return, Name, Alias, External, Method, Mutex, Event, Container', Scope, If, ElseIf, Else, While, For, Print, OperationRegion, Field, IndexField, BankField, CreateField, UnitName, Operated, Assigned, AssignedBy, Trees, no_trees, tree, count, Switch, Case, Default}
 use Rattle.asl_meaning.specs.Declarations.{As, Declarations, nothing_declared, is_named, scope_path, with_declared, declare, declarations, called, calls_all, known_of}
 use Rattle.asl_meaning.specs.Meaning.{SpotForm, OfResult, OfInside, NoSpot, spot_form, target_operator}
-use Rattle.acpi_names.specs.Errors.{Asked, Anything, AnObject, AValue, AMutex, AnEvent, AUnit, ARegion, asked_by, asked_types, used_types, NameError, Whole, whole_of, names, names_all, cond_errors, use_errors, call_errors, declared_errors, scope_errors, items_errors, types, types_all, spot_types, first_types, operand_types, spot_types_all, element_types, element_types_all, letter_types, spot_form_types, name_errors, type_errors}
+use Rattle.acpi_names.specs.Errors.{Asked, Anything, AnObject, AValue, AMutex, AnEvent, AUnit, ARegion, asked_by, asked_types, used_types, NameError, Whole, whole_of, names, names_all, cond_errors, use_errors, call_errors, declared_errors}
+use Rattle.acpi_names.specs.Errors.{scope_errors, items_errors, types, types_all, spot_types, first_types, operand_types, spot_types_all, element_types, element_types_all, letter_types, spot_form_types, name_errors, type_errors}
 use Rattle.acpi_names.specs.Errors as E
 use Rattle.asl_tree.specs.FieldItems.{FieldItem, UnitItem, SkipItem, OffsetItem, AccessItem, ConnectionItem, ToName, ToBytes}
 use Rattle.acpi_names.specs.Terms.{has_no_targets, is_value, are_values, is_term, are_terms}
@@ -170,11 +171,11 @@ module _ (whole : Whole) (others : List (AbsolutePath × ℕ)) (same : (path : A
     term_names (Alias from source at name) e scope d h = h
     term_names (External here at name type parameters) e scope d h = h
     term_names (Method at name flags body) e scope d h =
-        none_both (left_none (declared_errors whole at name scope d) _ h) (list_names body e (place_of name scope) (with_declared (place_of name scope) (As (MethodObject flags)) d) (right_none (declared_errors whole at name scope d) _ h))
+        none_both (left_none (declared_errors whole at name scope d) _ h) (list_names body e (declared_path name scope) (with_declared (declared_path name scope) (As (MethodObject flags)) d) (right_none (declared_errors whole at name scope d) _ h))
     term_names (Mutex at name level) e scope d h = h
     term_names (Event at name) e scope d h = h
     term_names (Container' kind at name body) e scope d h =
-        none_both (left_none (declared_errors whole at name scope d) _ h) (list_names body e (place_of name scope) (with_declared (place_of name scope) (As (ContainerObject kind)) d) (right_none (declared_errors whole at name scope d) _ h))
+        none_both (left_none (declared_errors whole at name scope d) _ h) (list_names body e (declared_path name scope) (with_declared (declared_path name scope) (As (ContainerObject kind)) d) (right_none (declared_errors whole at name scope d) _ h))
     term_names (Scope here at name body) e scope d h =
         none_both (left_none (use_errors whole at name scope ++ scope_errors whole here at name scope d) _ h) (list_names body e (scope_path d name scope) d (right_none (use_errors whole at name scope ++ scope_errors whole here at name scope d) _ h))
     term_names (If test body) e scope d h =
@@ -381,8 +382,8 @@ module _ (whole : Whole) (others : List (AbsolutePath × ℕ)) (same : (path : A
     types_right (CreateField form args at name) scope h = operands_right Anything (field_letters form) args scope h
     types_right (Return value) scope h = types_right value scope h
     types_right (Name at name value) scope h = types_right value scope h
-    types_right (Method at name flags body) scope h = list_right body (place_of name scope) h
-    types_right (Container' kind at name body) scope h = list_right body (place_of name scope) h
+    types_right (Method at name flags body) scope h = list_right body (declared_path name scope) h
+    types_right (Container' kind at name body) scope h = list_right body (declared_path name scope) h
     types_right (Scope here at name body) scope h = list_right body (choose (denoted (is_named whole.all) name scope) [] (λ path. path)) h
     types_right _ scope h = refl
 

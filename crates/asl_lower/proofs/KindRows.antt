@@ -19,44 +19,44 @@ use Rattle.asl_tree.specs.View.{fits, form, operands_as, apply_of, operated, sym
 use Rattle.asl_meaning.specs.Meaning.{target_operator}
 use Rattle.acpi_names.specs.Walked.{OfForm, term_shape}
 use Rattle.asl_lower.specs.Kinds.{flagged, tree_kind, shape_kind}
-use Rattle.asl_lower.specs.declared.kind.Kind.{Kind}
+use Rattle.asl_lower.specs.declared.kind.TermRole.{TermRole}
 
-items_kind : (o : Option (List (FieldItem UnitName))) (made : List (FieldItem UnitName) → Tree) → ((items : List (FieldItem UnitName)) → tree_kind (made items) ≡ Kind.Other) → tree_kind (choose o Misshapen made) ≡ Kind.Other
+items_kind : (o : Option (List (FieldItem UnitName))) (made : List (FieldItem UnitName) → Tree) → ((items : List (FieldItem UnitName)) → tree_kind (made items) ≡ TermRole.Other) → tree_kind (choose o Misshapen made) ≡ TermRole.Other
 items_kind None made h = refl
 items_kind (Some items) made h = h items
 
-apply_kind : (op : Plain) (args : Trees) → tree_kind (apply_of op args) ≡ Kind.Other
+apply_kind : (op : Plain) (args : Trees) → tree_kind (apply_of op args) ≡ TermRole.Other
 apply_kind (Plain.Number IntOp.LNotEqual) args = refl
 apply_kind (Plain.Number IntOp.LLessEqual) args = refl
 apply_kind (Plain.Number IntOp.LGreaterEqual) args = refl
 apply_kind op args = refl
 
-buffer_kind : (size : Tree) (bytes : List ℕ) → tree_kind (buffer size bytes) ≡ Kind.Other
+buffer_kind : (size : Tree) (bytes : List ℕ) → tree_kind (buffer size bytes) ≡ TermRole.Other
 buffer_kind Omitted bytes = refl
 buffer_kind size bytes = refl
 
-counted_kind : (n : ℕ) (elements : Trees) → tree_kind (counted n elements) ≡ Kind.Other
+counted_kind : (n : ℕ) (elements : Trees) → tree_kind (counted n elements) ≡ TermRole.Other
 counted_kind n elements = by_less (nat_le n 255)
   where
-    by_less : (c : Bool) → tree_kind (if c then Package n elements else VarPackage (Integer n) elements) ≡ Kind.Other
+    by_less : (c : Bool) → tree_kind (if c then Package n elements else VarPackage (Integer n) elements) ≡ TermRole.Other
     by_less true = refl
     by_less false = refl
 
-packaged_kind : (size : Tree) (elements : Trees) → tree_kind (packaged size elements) ≡ Kind.Other
+packaged_kind : (size : Tree) (elements : Trees) → tree_kind (packaged size elements) ≡ TermRole.Other
 packaged_kind Omitted elements = counted_kind (count elements) elements
 packaged_kind (Integer n) elements = counted_kind n elements
 packaged_kind size elements = refl
 
-operated_kind : (op : Plain) (args : Trees) → tree_kind (operated op args) ≡ flagged (takes_target op) (Kind.Operated op)
+operated_kind : (op : Plain) (args : Trees) → tree_kind (operated op args) ≡ flagged (takes_target op) (TermRole.Operated op)
 operated_kind (Plain.Number IntOp.LNotEqual) args = refl
 operated_kind (Plain.Number IntOp.LLessEqual) args = refl
 operated_kind (Plain.Number IntOp.LGreaterEqual) args = refl
 operated_kind op args = refl
 
-symbol_kind : (op : Plain) (args : Trees) → tree_kind (symbol_of op args) ≡ flagged (fits (row_of op).operands args) (flagged (takes_target op) (Kind.Operated op))
+symbol_kind : (op : Plain) (args : Trees) → tree_kind (symbol_of op args) ≡ flagged (fits (row_of op).operands args) (flagged (takes_target op) (TermRole.Operated op))
 symbol_kind op args = by_fit (fits (row_of op).operands args)
   where
-    by_fit : (c : Bool) → tree_kind (if c then operated op (operands_as (row_of op).operands args) else Misshapen) ≡ flagged c (flagged (takes_target op) (Kind.Operated op))
+    by_fit : (c : Bool) → tree_kind (if c then operated op (operands_as (row_of op).operands args) else Misshapen) ≡ flagged c (flagged (takes_target op) (TermRole.Operated op))
     by_fit true = operated_kind op (operands_as (row_of op).operands args)
     by_fit false = refl
 
@@ -112,14 +112,14 @@ kind_is at (D.Form' op shape args shape' body) = form_kind at op (row_trees args
 kind_is at _ = refl
 
 -- the operator that is given a target, by the kind
-abbrev pub kind_operator : Kind → Option Plain
-kind_operator (Kind.Operated op) = Some op
+abbrev pub kind_operator : TermRole → Option Plain
+kind_operator (TermRole.Operated op) = Some op
 kind_operator _ = None
 
 pub operator_of_kind : (t : Tree) → target_operator t ≡ kind_operator (tree_kind t)
 operator_of_kind (Operated op args) = by_takes (takes_target op)
   where
-    by_takes : (c : Bool) → (if c then Some op else None) ≡ kind_operator (flagged c (Kind.Operated op))
+    by_takes : (c : Bool) → (if c then Some op else None) ≡ kind_operator (flagged c (TermRole.Operated op))
     by_takes true = refl
     by_takes false = refl
 operator_of_kind _ = refl

@@ -25,7 +25,7 @@ use Rattle.asl_lower.specs.Kinds.{flagged, shape_kind, shape_args}
 use Rattle.asl_lower.specs.Nests.{joined}
 use Rattle.asl_lower.specs.Nodes.{given, last_target, named, named_args, named_body, is_symbolic}
 use Rattle.asl_lower.specs.Places.{lowered_at, lowered_places, nested_at, nested_places}
-use Rattle.asl_lower.specs.declared.kind.Kind.{Kind}
+use Rattle.asl_lower.specs.declared.kind.TermRole.{TermRole}
 use Rattle.asl_lower.proofs.Turns.{Turns}
 use Rattle.asl_lower.proofs.Backwards.{behind_all, joined_none}
 use Rattle.asl_lower.proofs.Forms.{kept_form, symbol_named, store_named, operator_named, compound_named}
@@ -270,7 +270,7 @@ record IsOperator (op : Plain) (args : Trees) (form_at : At → Tree) : Type 0 w
   fit : fits (row_of op).operands args ≡ true
   takes : takes_target op ≡ true
 
-operator_form : (o : Op) (args body : Trees) (op : Plain) → shape_kind (OfForm o args body) ≡ Kind.Operated op → IsOperator op args (λ at. form at o args body)
+operator_form : (o : Op) (args body : Trees) (op : Plain) → shape_kind (OfForm o args body) ≡ TermRole.Operated op → IsOperator op args (λ at. form at o args body)
 operator_form (Op.Control Control.ElseIf) no_trees body op e = absurd cc
 operator_form (Op.Control Control.ElseIf) (tree t no_trees) body op e = absurd cc
 operator_form (Op.Control Control.ElseIf) (tree t (tree u us)) body op e = absurd cc
@@ -279,7 +279,7 @@ operator_form (Op.Control Control.Else) (tree t ts) body op e = absurd cc
 operator_form (Op.Symbolic (S.Operator o)) args (tree t ts) op e = absurd cc
 operator_form (Op.Symbolic (S.Operator o)) args no_trees op e = by_flags (fits (row_of o).operands args) (takes_target o) refl refl e
   where
-    by_flags : (a b : Bool) → fits (row_of o).operands args ≡ a → takes_target o ≡ b → flagged a (flagged b (Kind.Operated o)) ≡ Kind.Operated op → IsOperator op args (λ at. form at (Op.Symbolic (S.Operator o)) args no_trees)
+    by_flags : (a b : Bool) → fits (row_of o).operands args ≡ a → takes_target o ≡ b → flagged a (flagged b (TermRole.Operated o)) ≡ TermRole.Operated op → IsOperator op args (λ at. form at (Op.Symbolic (S.Operator o)) args no_trees)
     by_flags true true f g e = let same : o ≡ op = cc in record {
       is = λ at. ap (λ o. form at (Op.Symbolic (S.Operator o)) args no_trees) same;
       fit = ap (λ o. fits (row_of o).operands args) (sym same) ∙ f;
@@ -289,12 +289,12 @@ operator_form (Op.Symbolic (S.Operator o)) args no_trees op e = by_flags (fits (
     by_flags false b f g e = absurd cc
 operator_form _ args body op e = absurd cc
 
-operator_term : (t : Term) (op : Plain) → shape_kind (term_shape t) ≡ Kind.Operated op → IsOperator op (shape_args (term_shape t)) (λ at. tree_of at t)
+operator_term : (t : Term) (op : Plain) → shape_kind (term_shape t) ≡ TermRole.Operated op → IsOperator op (shape_args (term_shape t)) (λ at. tree_of at t)
 unfolding tree_of
 operator_term (D.Form' o shape args shape' body) op e = operator_form o (row_trees args) (row_trees body) op e
 operator_term _ op e = absurd cc
 
-pub assign_lowered : (at : At) (args : List Node) (target value low : Node) (op : Plain) (inner operands all : Trees) → args ≡ target ∷ value ∷ [] → node_tree low ≡ named (node_tree target) → Kind.Operated op ≡ shape_kind (term_shape value.term)
+pub assign_lowered : (at : At) (args : List Node) (target value low : Node) (op : Plain) (inner operands all : Trees) → args ≡ target ∷ value ∷ [] → node_tree low ≡ named (node_tree target) → TermRole.Operated op ≡ shape_kind (term_shape value.term)
     → inner ≡ shape_args (term_shape value.term) → operands ≡ named_args inner → all ≡ joined operands (last_target (row_of op).targets (node_tree low))
     → form at (Op.Plain op) all no_trees ≡ named (form at (Op.Symbolic S.Assign) (trees_of args) no_trees)
 assign_lowered at args target value low op inner operands all two low_is k hi ho ha =
@@ -306,8 +306,8 @@ assign_lowered at args target value low op inner operands all two low_is k hi ho
     ∙ ap (λ t. named (form at (Op.Symbolic S.Assign) (tree (node_tree target) (tree t no_trees)) no_trees)) (sym (o.is here))
     ∙ ap (λ ts. named (form at (Op.Symbolic S.Assign) ts no_trees)) (sym (two_trees args target value two))
 
-not_operated : (k : Kind) → ((op : Plain) → k ≡ Kind.Operated op → ⊥) → kind_operator k ≡ None
-not_operated (Kind.Operated op) never = absurd (never op refl)
+not_operated : (k : TermRole) → ((op : Plain) → k ≡ TermRole.Operated op → ⊥) → kind_operator k ≡ None
+not_operated (TermRole.Operated op) never = absurd (never op refl)
 not_operated k never = refl
 
 -- nodes that stand for two trees are two
@@ -342,8 +342,8 @@ both_long (a ∷ b ∷ []) each e h = ap length (args_lowered (a ∷ b ∷ []) e
 both_long (a ∷ b ∷ c ∷ args) each e h = absurd (omega (arith, e))
 
 -- `X = E` as a Store: the arguments lowered, each in the other's place, with a value that has to be there
-pub store_lowered : (at : At) (args each swapped : List Node) (value first there : Node) (k : Kind) → length args ≡ 2 → value ≡ get_or args 1 value → trees_of each ≡ named_args (trees_of args) → swapped ≡ swap each 0 1
-    → first ≡ get_or swapped 0 first → node_tree there ≡ given (node_tree first) → k ≡ shape_kind (term_shape value.term) → ((op : Plain) → k ≡ Kind.Operated op → ⊥)
+pub store_lowered : (at : At) (args each swapped : List Node) (value first there : Node) (k : TermRole) → length args ≡ 2 → value ≡ get_or args 1 value → trees_of each ≡ named_args (trees_of args) → swapped ≡ swap each 0 1
+    → first ≡ get_or swapped 0 first → node_tree there ≡ given (node_tree first) → k ≡ shape_kind (term_shape value.term) → ((op : Plain) → k ≡ TermRole.Operated op → ⊥)
     → form at (Op.Plain (Plain.Data DataOp.Store)) (trees_of (set swapped 0 there)) no_trees ≡ named (form at (Op.Symbolic S.Assign) (trees_of args) no_trees)
 store_lowered at args each swapped value first there k long is low turned first_is there_is k_is never =
     let target : Node = get_or args 0 value in

@@ -34,8 +34,9 @@ use Rattle.asl_tree.specs.declared.path.Path.{Path}
 use Rattle.asl_tree.specs.declared.term.Compound.{Compound}
 use Rattle.asl_tree.specs.Symbols.{compound_operator, takes_target}
 use Rattle.asl_tree.specs.Literals.{literal_number}
-use Rattle.asl_tree.specs.Names.{Known, is_known, place_of, denoted, element_path}
-use Rattle.asl_tree.specs.Tree.{Tree, Integer, Constant, String, InSlot, Debug, Omitted, Raw, Use, Call, Apply, Buffer, Package, VarPackage, CondRefOf, Return, Name, Alias, External, Method, Mutex, Event, Container', Scope, Fill, Misshapen, Trees, no_trees, tree, OperationRegion, Field, IndexField, BankField, CreateField, UnitName, If, ElseIf, Else, While, Break, Continue, Item, Operated, Assigned, AssignedBy, Switch, Case, Default, For, Print}
+use Rattle.asl_tree.specs.Names.{Known, is_known, declared_path, denoted, element_path}
+use Rattle.asl_tree.specs.Tree.{Tree, Integer, Constant, String, InSlot, Debug, Omitted, Raw, Use, Call, Apply, Buffer, Package, VarPackage, CondRefOf, Return, Name, Alias, External, Method, Mutex, Event, Container', Scope, Fill, Misshapen}
+use Rattle.asl_tree.specs.Tree.{Trees, no_trees, tree, OperationRegion, Field, IndexField, BankField, CreateField, UnitName, If, ElseIf, Else, While, Break, Continue, Item, Operated, Assigned, AssignedBy, Switch, Case, Default, For, Print}
 use Rattle.asl_meaning.specs.FieldTerms.{Cursor, first_unit, behind_bits, at_byte, accessed, length_or_none, connected_to, resource_of, connect, create_units}
 use Rattle.asl_meaning.specs.Meaning as S
 use Rattle.asl_meaning.specs.Meaning.{SourceRun, SpotForm, OfResult, OfInside, NoSpot, spot_form, store_last, operate, two_values, store_with, assign_with, target_operator, leave_switch, unless_omitted, then_step}
@@ -321,14 +322,14 @@ module _ (width : Width) (known : Known) (turns : ℕ) (call : AbsolutePath → 
         alike_then (alike_cond width known place scope (alike_spot place scope)) (λ o. alike_then (alike_spot target scope) (λ p. alike_then (alike_act (cond_ref_of width o p)) (λ v. alike_done (Gives v))))
     alike (Return value) scope due = alike_then (alike_valued (alike value scope false)) (λ v. alike_done (O.Return v))
     alike (Name at name value) scope due =
-        alike_then (alike_valued (alike value scope false)) (λ v. alike_then (alike_create (place_of name scope) DataObject) (λ u. alike_then (alike_act (write_named (place_of name scope) v)) (λ u. alike_done (Normal false))))
-    alike (Alias from source at name) scope due = alike_then (alike_found width known source scope) (λ e. alike_created (place_of name scope) (AliasObject e.0))
+        alike_then (alike_valued (alike value scope false)) (λ v. alike_then (alike_create (declared_path name scope) DataObject) (λ u. alike_then (alike_act (write_named (declared_path name scope) v)) (λ u. alike_done (Normal false))))
+    alike (Alias from source at name) scope due = alike_then (alike_found width known source scope) (λ e. alike_created (declared_path name scope) (AliasObject e.0))
     alike (External here at name type parameters) scope due = alike_done (Normal false)
     alike (Method at name flags body) scope due =
-        alike_then (alike_create (place_of name scope) (MethodObject flags)) (λ u. alike_then (alike_keep (place_of name scope) body) (λ u. alike_done (Normal false)))
-    alike (Mutex at name level) scope due = alike_created (place_of name scope) (MutexObject level)
-    alike (Event at name) scope due = alike_created (place_of name scope) EventObject
-    alike (Container' kind at name body) scope due = alike_then (alike_create (place_of name scope) (ContainerObject kind)) (λ u. alike_all body (place_of name scope) false)
+        alike_then (alike_create (declared_path name scope) (MethodObject flags)) (λ u. alike_then (alike_keep (declared_path name scope) body) (λ u. alike_done (Normal false)))
+    alike (Mutex at name level) scope due = alike_created (declared_path name scope) (MutexObject level)
+    alike (Event at name) scope due = alike_created (declared_path name scope) EventObject
+    alike (Container' kind at name body) scope due = alike_then (alike_create (declared_path name scope) (ContainerObject kind)) (λ u. alike_all body (declared_path name scope) false)
     alike (Scope here at name body) scope due = alike_then (alike_find width known name scope) (λ path. alike_all body path false)
     alike (If test body) scope due =
         alike_then (alike_size width known (alike test scope false)) (λ n. alike_if (is_true n) (alike_all body scope false) (alike_done (Normal true)))
@@ -348,14 +349,14 @@ module _ (width : Width) (known : Known) (turns : ℕ) (call : AbsolutePath → 
     alike (Default body) scope due = alike_stop Broken
     alike Break scope due = alike_done O.Break
     alike Continue scope due = alike_done O.Continue
-    alike (OperationRegion at name space args) scope due = alike_then (alike_operands region_letters args scope) (λ os. alike_region width (place_of name scope) space os)
+    alike (OperationRegion at name space args) scope due = alike_then (alike_operands region_letters args scope) (λ os. alike_region width (declared_path name scope) space os)
     alike (Field here from region flags items) scope due = alike_then (alike_region_at width known region scope) (λ r. alike_units width known (InRegion r) scope (first_unit flags) items)
     alike (IndexField here from index to register flags items) scope due =
         alike_then (alike_register_at width known index scope) (λ i. alike_then (alike_register_at width known register scope) (λ r. alike_units width known (BehindIndex i r) scope (first_unit flags) items))
     alike (BankField here from region to bank value flags items) scope due =
         alike_then (alike_region_at width known region scope) (λ r. alike_then (alike_register_at width known bank scope)
         (λ b. alike_then (alike_size width known (alike value scope false)) (λ n. alike_units width known (InBank r b n) scope (first_unit flags) items)))
-    alike (CreateField form args at name) scope due = alike_then (alike_operands (field_letters form) args scope) (λ os. alike_buffer_field width form (place_of name scope) os)
+    alike (CreateField form args at name) scope due = alike_then (alike_operands (field_letters form) args scope) (λ os. alike_buffer_field width form (declared_path name scope) os)
     alike (Item item) scope due = alike_stop Broken
     alike (Fill bytes) scope due = alike_stop Broken
     alike Misshapen scope due = alike_stop Broken

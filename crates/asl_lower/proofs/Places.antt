@@ -24,7 +24,7 @@ use Rattle.asl_tree.specs.Symbols.{takes_target}
 use Rattle.asl_lower.specs.Kinds.{flagged, shape_kind, shape_args}
 use Rattle.asl_lower.specs.Nodes.{named_args}
 use Rattle.asl_lower.specs.Places.{form_places, has_terms, lowered_at, lowered_row, lowered_places, nested_at, nested_places}
-use Rattle.asl_lower.specs.declared.kind.Kind.{Kind}
+use Rattle.asl_lower.specs.declared.kind.TermRole.{TermRole}
 use Rattle.asl_lower.proofs.Backwards.{AreOthers}
 
 -- ---- a form by its nodes
@@ -150,18 +150,18 @@ nest_all [] made e = refl
 nest_all (node ∷ left) made e = absurd (omega (arith, e))
 
 -- a term that is no ElseIf
-no_else_if : (op : Op) (args body : Trees) (place : Place) (inner : List Place) → (shape_kind (OfForm op args body) ≡ Kind.ElseIf → ⊥) → place ∷ (if holds_terms op then inner else []) ≡ form_places op args place inner
+no_else_if : (op : Op) (args body : Trees) (place : Place) (inner : List Place) → (shape_kind (OfForm op args body) ≡ TermRole.ElseIf → ⊥) → place ∷ (if holds_terms op then inner else []) ≡ form_places op args place inner
 no_else_if (Op.Control Control.ElseIf) no_trees body place inner never = refl
 no_else_if (Op.Control Control.ElseIf) (tree t no_trees) body place inner never = absurd (never refl)
 no_else_if (Op.Control Control.ElseIf) (tree t (tree u us)) body place inner never = refl
 no_else_if op args body place inner never = refl
 
-other_kind : (place : Place) (t : Term) → (shape_kind (term_shape t) ≡ Kind.ElseIf → ⊥) → place ∷ inner_places t ≡ nested_at place t
+other_kind : (place : Place) (t : Term) → (shape_kind (term_shape t) ≡ TermRole.ElseIf → ⊥) → place ∷ inner_places t ≡ nested_at place t
 unfolding inner_places
 other_kind place (D.Form' op shape args shape' body) never = no_else_if op (row_trees args) (row_trees body) place (row_places body) never
 other_kind place t never = refl
 
-pub put_other_places : (old new : List Node) (node : Node) → new ≡ old ++ node ∷ [] → (shape_kind (term_shape node.term) ≡ Kind.ElseIf → ⊥) → places_of (reverse new) ≡ nested_at node.place node.term ++ places_of (reverse old)
+pub put_other_places : (old new : List Node) (node : Node) → new ≡ old ++ node ∷ [] → (shape_kind (term_shape node.term) ≡ TermRole.ElseIf → ⊥) → places_of (reverse new) ≡ nested_at node.place node.term ++ places_of (reverse old)
 put_other_places old new node e never = ap (λ ns. places_of (reverse ns)) e ∙ places_first old node ∙ ap (λ ps. ps ++ places_of (reverse old)) (other_kind node.place node.term never)
 
 pub same_places : (nodes : List Node) → AreOthers nodes (length nodes) → places_of nodes ≡ nested_places nodes
@@ -172,12 +172,12 @@ same_places (node ∷ nodes) others =
     ∙ ap (λ ps. nested_at node.place node.term ++ ps) (same_places nodes (λ k lt e. others (suc k) (omega (arith, lt)) e))
 
 -- an ElseIf as an If
-no_flag : (a b : Bool) (op : Plain) → flagged a (flagged b (Kind.Operated op)) ≡ Kind.ElseIf → ⊥
+no_flag : (a b : Bool) (op : Plain) → flagged a (flagged b (TermRole.Operated op)) ≡ TermRole.ElseIf → ⊥
 no_flag true true op e = absurd cc
 no_flag true false op e = absurd cc
 no_flag false b op e = absurd cc
 
-if_places : (op : Op) (args body : Trees) (place : Place) (inner : List Place) → shape_kind (OfForm op args body) ≡ Kind.ElseIf → place ∷ place ∷ inner ≡ form_places op args place inner
+if_places : (op : Op) (args body : Trees) (place : Place) (inner : List Place) → shape_kind (OfForm op args body) ≡ TermRole.ElseIf → place ∷ place ∷ inner ≡ form_places op args place inner
 if_places (Op.Control Control.ElseIf) (tree test no_trees) body place inner e = refl
 if_places (Op.Control Control.ElseIf) no_trees body place inner e = absurd cc
 if_places (Op.Control Control.ElseIf) (tree t (tree u us)) body place inner e = absurd cc
@@ -186,7 +186,7 @@ if_places (Op.Control Control.Else) (tree t ts) body place inner e = absurd cc
 if_places (Op.Symbolic (Symbolic.Operator op)) args body place inner e = absurd (no_flag (are 0 body && fits (row_of op).operands args) (takes_target op) op e)
 if_places _ args body place inner e = absurd cc
 
-pub if_is_placed : (place : Place) (op : Op) (args body : Vec Node Global) (t : Term) → t ≡ D.Form op args body → shape_kind (term_shape t) ≡ Kind.ElseIf → place ∷ place ∷ inner_places (D.Form (Op.Control Control.If) args body) ≡ nested_at place t
+pub if_is_placed : (place : Place) (op : Op) (args body : Vec Node Global) (t : Term) → t ≡ D.Form op args body → shape_kind (term_shape t) ≡ TermRole.ElseIf → place ∷ place ∷ inner_places (D.Form (Op.Control Control.If) args body) ≡ nested_at place t
 if_is_placed place op args body t e k =
     ap (λ ps. place ∷ place ∷ ps) (P.form_places (Op.Control Control.If) args body)
     ∙ if_places op (trees_of args.items) (trees_of body.items) place (places_of body.items) (sym (ap shape_kind (form_rows op args body)) ∙ sym (ap (λ t. shape_kind (term_shape t)) e) ∙ k)

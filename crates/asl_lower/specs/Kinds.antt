@@ -9,24 +9,24 @@ use Rattle.asl_tree.specs.Tree.{Tree, ElseIf, Else, Operated, Trees, no_trees}
 use Rattle.asl_tree.specs.View.{fits}
 use Rattle.acpi_names.specs.Parts.{are}
 use Rattle.acpi_names.specs.Walked.{TermShape, OfForm}
-use Rattle.asl_lower.specs.declared.kind.Kind.{Kind}
+use Rattle.asl_lower.specs.declared.kind.TermRole.{TermRole}
 
-abbrev pub flagged : Bool → Kind → Kind
+abbrev pub flagged : Bool → TermRole → TermRole
 flagged true kind = kind
-flagged false kind = Kind.Other
+flagged false kind = TermRole.Other
 
-abbrev pub tree_kind : Tree → Kind
-tree_kind (ElseIf test body) = Kind.ElseIf
-tree_kind (Else body) = Kind.Else
-tree_kind (Operated op args) = flagged (takes_target op) (Kind.Operated op)
-tree_kind _ = Kind.Other
+abbrev pub tree_kind : Tree → TermRole
+tree_kind (ElseIf test body) = TermRole.ElseIf
+tree_kind (Else body) = TermRole.Else
+tree_kind (Operated op args) = flagged (takes_target op) (TermRole.Operated op)
+tree_kind _ = TermRole.Other
 
-abbrev pub shape_kind : TermShape → Kind
-shape_kind (OfForm (Op.Control Control.ElseIf) args body) = flagged (are 1 args) Kind.ElseIf
-shape_kind (OfForm (Op.Control Control.Else) args body) = flagged (are 0 args) Kind.Else
+abbrev pub shape_kind : TermShape → TermRole
+shape_kind (OfForm (Op.Control Control.ElseIf) args body) = flagged (are 1 args) TermRole.ElseIf
+shape_kind (OfForm (Op.Control Control.Else) args body) = flagged (are 0 args) TermRole.Else
 shape_kind (OfForm (Op.Symbolic (Symbolic.Operator op)) args body) = flagged (are 0 body && fits (row_of op).operands args)
-    (flagged (takes_target op) (Kind.Operated op))
-shape_kind _ = Kind.Other
+    (flagged (takes_target op) (TermRole.Operated op))
+shape_kind _ = TermRole.Other
 
 -- the arguments of a form
 abbrev pub shape_args : TermShape → Trees

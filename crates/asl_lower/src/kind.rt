@@ -15,7 +15,7 @@ use asl_tree::term::{Control, Node, Op, Symbolic, Term};
 
 /// What a term is for lowering.
 #[derive(Clone, Copy, PartialEq, Eq, Debug)]
-pub enum Kind {
+pub enum TermRole {
     ElseIf,
     Else,
     /// A symbolic operator that an assignment gives its target.
@@ -72,10 +72,10 @@ fn takes_target(op: Plain) -> bool
     }
 }
 
-fn flag(holds: bool, kind: Kind) -> Kind
+fn flag(holds: bool, kind: TermRole) -> TermRole
     ensures { result ≡ flagged holds kind }
 {
-    if holds { kind } else { Kind::Other }
+    if holds { kind } else { TermRole::Other }
 }
 
 #[tactic(auto, using(acpi_names::proofs::Trees::are_long))]
@@ -93,26 +93,26 @@ pub(crate) fn fit(op: Plain, args: &[Node]) -> bool
     args.len() == letters(op).len()
 }
 
-fn form_kind(op: Op, args: &[Node], body: &[Node]) -> Kind
+fn form_kind(op: Op, args: &[Node], body: &[Node]) -> TermRole
     ensures { result ≡ shape_kind (OfForm op (trees_of args.now) (trees_of body.now)) }
 {
     match op {
-        Op::Control(Control::ElseIf) => flag(are(args, 1), Kind::ElseIf),
-        Op::Control(Control::Else) => flag(are(args, 0), Kind::Else),
+        Op::Control(Control::ElseIf) => flag(are(args, 1), TermRole::ElseIf),
+        Op::Control(Control::Else) => flag(are(args, 0), TermRole::Else),
         Op::Symbolic(Symbolic::Operator(op)) => flag(
             are(body, 0) && fit(op, args),
-            flag(takes_target(op), Kind::Operated(op)),
+            flag(takes_target(op), TermRole::Operated(op)),
         ),
-        _ => Kind::Other,
+        _ => TermRole::Other,
     }
 }
 
 /// What a term is.
-pub(crate) fn kind_of(term: &Term) -> Kind
+pub(crate) fn kind_of(term: &Term) -> TermRole
     ensures { result ≡ shape_kind (term_shape term.now) }
 {
     match shape_of(term) {
         Shape::Form(op, args, body) => form_kind(op, args, body),
-        _ => Kind::Other,
+        _ => TermRole::Other,
     }
 }

@@ -12,5 +12,6 @@ ghost use Rattle.asl_lower.specs.Nodes.{named_all};
 /// A program has the same sessions with its symbolic operators named and its ElseIfs nested.
 pub fn same_sessions()
     ensures { (width : Width) (known : Known) (terms : Trees) (there : Names) (n : ℕ) (answers : List Value) (requests : List Request)
-        → source_session width known (named_all terms) there n answers requests ≡ source_session width known terms there n answers requests }
+        → source_session width known (named_all terms) there n answers requests
+        ≡ source_session width known terms there n answers requests }
 {}

@@ -16,7 +16,7 @@ ghost use Rattle.asl_lower.specs.Places.{form_places, has_terms, lowered_at, low
 ghost use Rattle.term_places.specs.Places.{places_of};
 
 use crate::copy::copied;
-use crate::kind::{Kind, fit, kind_of, targets};
+use crate::kind::{TermRole, fit, kind_of, targets};
 use crate::nest::nest;
 use acpi_values::operator::{DataOp, IntOp, Plain};
 use asl_tree::term::{Compound, Control, Declaration, Node, Op, Special, Symbolic, Term};
@@ -95,7 +95,8 @@ fn operands(alloc: Global, term: Term) -> Vec<Node>
 
 // The targets of an operator behind its operands: all are left out but the last one.
 fn put_targets(op: Plain, args: &mut Vec<Node>, target: Node) -> Result<(), AllocError>
-    ensures { OnOk result (trees_of args.new.items ≡ joined (trees_of args.old.items) (last_target (row_of op).targets (node_tree target))) }
+    ensures { OnOk result
+        (trees_of args.new.items ≡ joined (trees_of args.old.items) (last_target (row_of op).targets (node_tree target))) }
 {
     let mut left = targets(op);
     if left == 0 {
@@ -303,7 +304,7 @@ fn lower_assignment(alloc: Global, args: &mut Vec<Node>) -> Result<Op, AllocErro
         return Ok(Op::Symbolic(Symbolic::Assign));
     }
     match kind_of(&args[1].term) {
-        Kind::Operated(op) => {
+        TermRole::Operated(op) => {
             let both = replace(args, Vec::new(alloc));
             let (target, value) = two(both);
             let mut target = target;

@@ -9,9 +9,9 @@ ghost use Rattle.asl_lower.specs.Nodes.{before, nested};
 ghost use Rattle.asl_lower.specs.Places.{nested_at, nested_places};
 ghost use Rattle.iasl_messages.specs.declared.place.Place.{Place as Here};
 ghost use Rattle.term_places.specs.Places.{inner_places, places_of};
-ghost use Rattle.asl_lower.specs.declared.kind.Kind.TheVariants as K;
+ghost use Rattle.asl_lower.specs.declared.kind.TermRole.TheVariants as K;
 
-use crate::kind::{Kind, kind_of};
+use crate::kind::{TermRole, kind_of};
 use asl_tree::term::{Control, Node, Op, Term};
 use std::alloc::{AllocError, Global};
 use std::mem::replace;
@@ -41,7 +41,7 @@ fn take_else(made: &mut Vec<Node>, inner: &mut Vec<Node>) -> Result<(), AllocErr
 {
     match made.pop() {
         Some(node) => match kind_of(&node.term) {
-            Kind::Else => {
+            TermRole::Else => {
                 inner.push(node)?;
                 Ok(())
             }
@@ -57,7 +57,8 @@ fn take_else(made: &mut Vec<Node>, inner: &mut Vec<Node>) -> Result<(), AllocErr
 fn put_else(alloc: Global, made: &mut Vec<Node>, node: Node) -> Result<(), AllocError>
     requires { shape_kind (term_shape node.term) ≡ K.ElseIf }
     ensures trees { OnOk result (backwards made.new.items ≡ before (node_tree node) (backwards made.old.items)) }
-    ensures places { OnOk result (places_of (reverse made.new.items) ≡ nested_at node.place node.term ++ places_of (reverse made.old.items)) }
+    ensures places { OnOk result
+        (places_of (reverse made.new.items) ≡ nested_at node.place node.term ++ places_of (reverse made.old.items)) }
 {
     let Node { id, place, term } = node;
     let mut inner = Vec::new(alloc);
@@ -82,10 +83,11 @@ fn put_else(alloc: Global, made: &mut Vec<Node>, node: Node) -> Result<(), Alloc
 // Puts a node before those that stand backwards.
 fn put_before(alloc: Global, made: &mut Vec<Node>, node: Node) -> Result<(), AllocError>
     ensures trees { OnOk result (backwards made.new.items ≡ before (node_tree node) (backwards made.old.items)) }
-    ensures places { OnOk result (places_of (reverse made.new.items) ≡ nested_at node.place node.term ++ places_of (reverse made.old.items)) }
+    ensures places { OnOk result
+        (places_of (reverse made.new.items) ≡ nested_at node.place node.term ++ places_of (reverse made.old.items)) }
 {
     match kind_of(&node.term) {
-        Kind::ElseIf => {
+        TermRole::ElseIf => {
             put_else(alloc, made, node)?;
             Ok(())
         }

@@ -24,7 +24,7 @@ use Rattle.acpi_state.specs.Activations.{scope_object, create_in, create, keep_b
 use Rattle.acpi_state.proofs.Lookups.{is_same_path-true}
 use Rattle.acpi_state.proofs.Readings.{Any, Ends, EndsExpression, Joint, Same, same_done, same_stop, same_then, same_so, same_value, same_on_flow}
 use Rattle.asl_tree.specs.Tree.{Trees}
-use Rattle.asl_tree.specs.Names.{Kind, Is, AliasTo, Known, is_known, kind_at, end_by, end_of}
+use Rattle.asl_tree.specs.Names.{NameKind, Is, AliasTo, Known, is_known, kind_at, end_by, end_of}
 pub use Rattle.asl_meaning.specs.Starts.{LeadsTo, IsKnownAs, AreNamed, AreKnownAs}
 use Rattle.asl_meaning.proofs.Searches.{AreKnown}
 
@@ -59,7 +59,7 @@ abbrev first_or : AbsolutePath → Option (AbsolutePath × Object) → AbsoluteP
 first_or path None = path
 first_or path (Some found) = found.0
 
-abbrev object_or : Object → Option Kind → Object
+abbrev object_or : Object → Option NameKind → Object
 object_or object (Some (Is other)) = other
 object_or object _ = object
 
@@ -102,7 +102,7 @@ module _ (known : Known) where
   end_is zero path target object e = absurd (grind arith)
   end_is (suc n) path target object e = by_kind (kind_at known path) refl e (λ source. end_is n source target object)
     where
-      by_kind : (o : Option Kind) → kind_at known path ≡ o → end_by o path (end_of known n) ≡ Some (target, object) → ((source : AbsolutePath) → end_of known n source ≡ Some (target, object) → kind_at known target ≡ Some (Is object)) → kind_at known target ≡ Some (Is object)
+      by_kind : (o : Option NameKind) → kind_at known path ≡ o → end_by o path (end_of known n) ≡ Some (target, object) → ((source : AbsolutePath) → end_of known n source ≡ Some (target, object) → kind_at known target ≡ Some (Is object)) → kind_at known target ≡ Some (Is object)
       by_kind None h e go = absurd (grind arith)
       by_kind (Some (Is other)) h e go =
           ap (kind_at known) (sym (ap (first_or path) e)) ∙ h ∙ ap (λ o. Some (Is o)) (ap (second_or other) e)
@@ -246,7 +246,8 @@ module _ {B : Type 0} (r : Reading B) where
   agree_external path args = agree_given (ask (Call path args))
 
   -- what a name leads to is used in the same way
-  pub agree_use : (width : Width) (call : AbsolutePath → List Value → Run Trees Flow) (call' : AbsolutePath → List Value → Run B Flow) → ((path : AbsolutePath) (args : List Value) → Agree EndsExpression (λ f. f) (call path args) (call' path args)) → (path : AbsolutePath) (object : Object) (args : List Value) → Agree EndsExpression (λ f. f) (use_object width call path object args) (use_object width call' path object args)
+  pub agree_use : (width : Width) (call : AbsolutePath → List Value → Run Trees Flow) (call' : AbsolutePath → List Value → Run B Flow) → ((path : AbsolutePath) (args : List Value) → Agree EndsExpression (λ f. f) (call path args) (call' path args)) → (path : AbsolutePath) (object : Object) (args : List Value)
+      → Agree EndsExpression (λ f. f) (use_object width call path object args) (use_object width call' path object args)
   agree_use width call call' calls path (MethodObject flags) args = calls path args
   agree_use width call call' calls path (ExternalObject (ExternalMethod arity)) args = agree_external path args
   agree_use width call call' calls path (ExternalObject (ExternalData type)) args = agree_given (object_value width path (ExternalObject (ExternalData type)))

@@ -26,9 +26,10 @@ use Rattle.acpi_state.specs.Loops.{is_true, after_turn, loop}
 use Rattle.acpi_state.specs.Uses.{use_object}
 use Rattle.asl_tree.specs.FieldItems.{FieldItem, UnitItem, SkipItem, OffsetItem, AccessItem, ConnectionItem}
 use Rattle.asl_tree.specs.declared.path.Path.{Path}
-use Rattle.asl_tree.specs.Names.{Known, place_of}
+use Rattle.asl_tree.specs.Names.{Known, declared_path}
 use Rattle.asl_tree.specs.Symbols.{compound_operator}
-use Rattle.asl_tree.specs.Tree.{Tree, Integer, Constant, String, InSlot, Debug, Omitted, Raw, Use, Call, Apply, Buffer, Package, VarPackage, CondRefOf, Name, Alias, External, Method, Mutex, Event, Container', Scope, Fill, Misshapen, Trees, no_trees, tree, OperationRegion, Field, IndexField, BankField, CreateField, If, ElseIf, Else, While, Switch, Case, Default, Continue, Item, Operated, Assigned, AssignedBy, UnitName, For, Print}
+use Rattle.asl_tree.specs.Tree.{Tree, Integer, Constant, String, InSlot, Debug, Omitted, Raw, Use, Call, Apply, Buffer, Package, VarPackage, CondRefOf, Name, Alias, External, Method, Mutex, Event, Container', Scope, Fill, Misshapen}
+use Rattle.asl_tree.specs.Tree.{Trees, no_trees, tree, OperationRegion, Field, IndexField, BankField, CreateField, If, ElseIf, Else, While, Switch, Case, Default, Continue, Item, Operated, Assigned, AssignedBy, UnitName, For, Print}
 use Rattle.asl_tree.specs.Tree as T
 use Rattle.asl_meaning.specs.FieldTerms.{Cursor, first_unit, behind_bits, at_byte, accessed, length_or_none, connected_to, create_unit, connect, create_units}
 use Rattle.asl_meaning.specs.Meaning as S
@@ -188,13 +189,13 @@ module _ (width : Width) (known : Known) (turns : ℕ) (call : AbsolutePath → 
     lasting (VarPackage count elements) h scope due = lasting_then (N count scope) (λ n. lasting_then (S.elements width known turns call elements scope) (λ es. lasting_given (act (computed (package_of n es)))))
     lasting (CondRefOf place target) h scope due = lasting_then (S.cond_by width known place (P place scope) scope) (λ o. lasting_then (P target scope) (λ t. lasting_given (act (cond_ref_of width o t))))
     lasting (T.Return value) h scope due = lasting_value (V value scope) (λ v. Return v) (λ v. tt)
-    lasting (Name at name value) h scope due = lasting_then (V value scope) (λ v. lasting_then (create (place_of name scope) DataObject) (λ u. lasting_normal (act (write_named (place_of name scope) v))))
-    lasting (Alias from source at name) h scope due = lasting_then (S.found known source scope) (λ e. lasting_normal (create (place_of name scope) (AliasObject e.0)))
+    lasting (Name at name value) h scope due = lasting_then (V value scope) (λ v. lasting_then (create (declared_path name scope) DataObject) (λ u. lasting_normal (act (write_named (declared_path name scope) v))))
+    lasting (Alias from source at name) h scope due = lasting_then (S.found known source scope) (λ e. lasting_normal (create (declared_path name scope) (AliasObject e.0)))
     lasting (External here at name type parameters) h scope due = lasting_done (Normal false) tt
-    lasting (Method at name flags body) h scope due = lasting_then (create (place_of name scope) (MethodObject flags)) (λ u. lasting_normal (keep_body (place_of name scope) body))
-    lasting (Mutex at name level) h scope due = lasting_normal (create (place_of name scope) (MutexObject level))
-    lasting (Event at name) h scope due = lasting_normal (create (place_of name scope) EventObject)
-    lasting (Container' kind at name body) h scope due = lasting_then (create (place_of name scope) (ContainerObject kind)) (λ u. lasting_all body h (place_of name scope) false)
+    lasting (Method at name flags body) h scope due = lasting_then (create (declared_path name scope) (MethodObject flags)) (λ u. lasting_normal (keep_body (declared_path name scope) body))
+    lasting (Mutex at name level) h scope due = lasting_normal (create (declared_path name scope) (MutexObject level))
+    lasting (Event at name) h scope due = lasting_normal (create (declared_path name scope) EventObject)
+    lasting (Container' kind at name body) h scope due = lasting_then (create (declared_path name scope) (ContainerObject kind)) (λ u. lasting_all body h (declared_path name scope) false)
     lasting (Scope here at name body) h scope due = lasting_then (S.find known name scope) (λ path. lasting_all body h path false)
     lasting (If test body) h scope due = lasting_then (N test scope) (λ n. lasting_if (is_true n) (lasting_all body h scope false) (lasting_done (Normal true) tt))
     lasting (ElseIf test body) h scope due = lasting_if due (lasting_then (N test scope) (λ n. lasting_if (is_true n) (lasting_all body h scope false) (lasting_done (Normal true) tt))) (lasting_done (Normal false) tt)
@@ -210,11 +211,11 @@ module _ (width : Width) (known : Known) (turns : ℕ) (call : AbsolutePath → 
     lasting (Default body) h scope due = lasting_stop Broken
     lasting T.Break h scope due = lasting_done Break tt
     lasting Continue h scope due = absurd (grind arith)
-    lasting (OperationRegion at name space args) h scope due = lasting_then (Ops region_letters args scope) (λ os. lasting_then (act (region_extent width os)) (λ e. lasting_normal (create (place_of name scope) (RegionObject space e.0 e.1))))
+    lasting (OperationRegion at name space args) h scope due = lasting_then (Ops region_letters args scope) (λ os. lasting_then (act (region_extent width os)) (λ e. lasting_normal (create (declared_path name scope) (RegionObject space e.0 e.1))))
     lasting (Field here from region flags items) h scope due = lasting_then (S.region_at known region scope) (λ r. lasting_units (λ name. S.region_at known name scope) (InRegion r) scope (first_unit flags) items)
     lasting (IndexField here from index to register flags items) h scope due = lasting_then (S.register_at known index scope) (λ i. lasting_then (S.register_at known register scope) (λ r. lasting_units (λ name. S.region_at known name scope) (BehindIndex i r) scope (first_unit flags) items))
     lasting (BankField here from region to bank value flags items) h scope due = lasting_then (S.region_at known region scope) (λ r. lasting_then (S.register_at known bank scope) (λ b. lasting_then (N value scope) (λ n. lasting_units (λ name. S.region_at known name scope) (InBank r b n) scope (first_unit flags) items)))
-    lasting (CreateField form args at name) h scope due = lasting_then (Ops (field_letters form) args scope) (λ os. lasting_then (act (new_field width form os)) (λ made. lasting_then (create (place_of name scope) (BufferFieldObject made.0)) (λ u. lasting_normal (act (keep_own (place_of name scope) made.0.source made.1)))))
+    lasting (CreateField form args at name) h scope due = lasting_then (Ops (field_letters form) args scope) (λ os. lasting_then (act (new_field width form os)) (λ made. lasting_then (create (declared_path name scope) (BufferFieldObject made.0)) (λ u. lasting_normal (act (keep_own (declared_path name scope) made.0.source made.1)))))
     lasting Debug h scope due = lasting_stop (Faulted WrongType)
     lasting Omitted h scope due = lasting_stop Broken
     lasting (Raw size number) h scope due = lasting_stop Broken

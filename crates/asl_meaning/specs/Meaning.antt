@@ -32,7 +32,7 @@ use Rattle.acpi_state.specs.FieldActs.{region_letters, make_region, field_letter
 use Rattle.asl_meaning.specs.FieldTerms.{first_unit, create_units}
 use Rattle.asl_tree.specs.Formats.{cut}
 use Rattle.asl_tree.specs.Literals.{literal_number}
-use Rattle.asl_tree.specs.Names.{Known, is_known, place_of, denoted, element_path}
+use Rattle.asl_tree.specs.Names.{Known, is_known, declared_path, denoted, element_path}
 use Rattle.asl_tree.specs.Symbols.{compound_operator, takes_target}
 use Rattle.asl_tree.specs.Tree.{Tree, Integer, Constant, String, InSlot, Debug, Omitted, Raw, Use, Call, Apply, Buffer, Package}
 use Rattle.asl_tree.specs.Tree.{VarPackage, CondRefOf, Return, Name, Alias, External, Method, Mutex, Event, Container', Scope, Fill}
@@ -215,18 +215,19 @@ module _ (width : Width) (known : Known) where
       run (Return value) scope due = then_run (then_run (run value scope false) value_of) (λ v. done (O.Return v))
       run (Name at name value) scope due =
           then_run (then_run (run value scope false) value_of)
-          (λ v. then_run (create (place_of name scope) DataObject)
-          (λ u. then_run (act (write_named (place_of name scope) v)) (λ u. done (Normal false))))
+          (λ v. then_run (create (declared_path name scope) DataObject)
+          (λ u. then_run (act (write_named (declared_path name scope) v)) (λ u. done (Normal false))))
       run (Alias from source at name) scope due =
-          then_run (found known source scope) (λ e. then_run (create (place_of name scope) (AliasObject e.0)) (λ u. done (Normal false)))
+          then_run (found known source scope)
+          (λ e. then_run (create (declared_path name scope) (AliasObject e.0)) (λ u. done (Normal false)))
       run (External here at name type parameters) scope due = done (Normal false)
       run (Method at name flags body) scope due =
-          then_run (create (place_of name scope) (MethodObject flags))
-          (λ u. then_run (keep_body (place_of name scope) body) (λ u. done (Normal false)))
-      run (Mutex at name level) scope due = then_run (create (place_of name scope) (MutexObject level)) (λ u. done (Normal false))
-      run (Event at name) scope due = then_run (create (place_of name scope) EventObject) (λ u. done (Normal false))
+          then_run (create (declared_path name scope) (MethodObject flags))
+          (λ u. then_run (keep_body (declared_path name scope) body) (λ u. done (Normal false)))
+      run (Mutex at name level) scope due = then_run (create (declared_path name scope) (MutexObject level)) (λ u. done (Normal false))
+      run (Event at name) scope due = then_run (create (declared_path name scope) EventObject) (λ u. done (Normal false))
       run (Container' kind at name body) scope due =
-          then_run (create (place_of name scope) (ContainerObject kind)) (λ u. run_all body (place_of name scope) false)
+          then_run (create (declared_path name scope) (ContainerObject kind)) (λ u. run_all body (declared_path name scope) false)
       run (Scope here at name body) scope due = then_run (find known name scope) (λ path. run_all body path false)
       run (If test body) scope due =
           then_run (size_by (run test scope false)) (λ n. if is_true n then run_all body scope false else done (Normal true))
@@ -251,7 +252,7 @@ module _ (width : Width) (known : Known) where
       run Break scope due = done O.Break
       run Continue scope due = done O.Continue
       run (OperationRegion at name space args) scope due =
-          then_run (operands region_letters args scope) (λ os. make_region width (place_of name scope) space os)
+          then_run (operands region_letters args scope) (λ os. make_region width (declared_path name scope) space os)
       run (Field here from region flags items) scope due =
           then_run (region_at known region scope)
           (λ r. create_units (λ name. region_at known name scope) (InRegion r) scope (first_unit flags) items)
@@ -264,7 +265,7 @@ module _ (width : Width) (known : Known) where
           then_run (size_by (run value scope false))
           (λ n. create_units (λ name. region_at known name scope) (InBank r b n) scope (first_unit flags) items)))
       run (CreateField form args at name) scope due =
-          then_run (operands (field_letters form) args scope) (λ os. make_buffer_field width form (place_of name scope) os)
+          then_run (operands (field_letters form) args scope) (λ os. make_buffer_field width form (declared_path name scope) os)
       run (Item item) scope due = stop Broken
       run (Fill bytes) scope due = stop Broken
       run Misshapen scope due = stop Broken

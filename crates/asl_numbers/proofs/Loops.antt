@@ -1,5 +1,5 @@
 -- Nodes that are numbered one after another.
-use Rattle.std.proofs.Common.{◌≡◌, ℕ, zero, suc, ◌+◌, ◌<◌, ◌≤◌, List, [], ◌∷◌, length, get_or, set, take, drop, refl, sym, ap, ◌∙◌, subst, arith}
+use Rattle.std.proofs.Common.{◌≡◌, ℕ, zero, suc, ◌+◌, ◌<◌, ◌≤◌, List, [], ◌∷◌, ◌++◌, length, get_or, set, take, drop, refl, sym, ap, ◌∙◌, subst, arith}
 use Rattle.std.specs.Prelude.{Option, Some, None, IfNone}
 use Rattle.std.proofs.lemmas.List.{take_all, drop_all}
 use Rattle.asl_tree.specs.declared.term.Node.{Node}
@@ -132,6 +132,29 @@ smaller old now at node lt e rest =
     let here : nodes (plans_of (drop at old)) ≡ suc (inside (plan_of node.term) + nodes (plans_of (drop (suc at) now))) = ap (λ ns. nodes (plans_of ns)) (sym rest ∙ first_behind now at node lt e) ∙ one_count node (drop (suc at) now) in
     omega (arith, fewer, here)
 
+-- a node is numbered where it stands
+pub node_numbered : (first : ℕ) (old now : List Node) (at next behind_it : ℕ) (node made : Node) → at < length now → node ≡ get_or now at node → IsNumbered first old now at next
+    → made.id ≡ next → made.place ≡ (get_or now at node).place → ((here : At) → tree_of here made.term ≡ numbered here (suc next) (plan_of (get_or now at node).term)) → behind_it ≡ suc next + inside (plan_of (get_or now at node).term)
+    → plan_of made.term ≡ plan_of (get_or now at node).term → IsNumbered first old (set now at made) (at + 1) behind_it
+node_numbered first old now at next behind_it node made lt e h id place tree_is count plan_is =
+    let one : at + 1 ≡ suc at = omega arith in
+    subst (λ n. IsNumbered first old (set now at made) n behind_it) (sym one) (next_numbered first old now at next behind_it (get_or now at node) made lt (subst (λ n. n ≡ get_or now at n) e e) h id place tree_is count plan_is)
+
+pub inside_smaller : (old now : List Node) (at : ℕ) (node : Node) → at < length now → node ≡ get_or now at node → drop at now ≡ drop at old → inside (plan_of (get_or now at node).term) < nodes (plans_of old)
+inside_smaller old now at node lt e rest = smaller old now at (get_or now at node) lt (subst (λ n. n ≡ get_or now at n) e e) rest
+
+-- what is behind the nodes is cut off
+pub front_only : (xs ys : List Node) (n : ℕ) → n ≡ length xs → take n (xs ++ ys) ≡ xs
+front_only [] ys n e = ap (λ n. take n ys) e ∙ none ys
+  where
+    none : (ys : List Node) → take 0 ys ≡ []
+    none [] = refl
+    none (y ∷ ys) = refl
+front_only (x ∷ xs) ys zero e = absurd (omega (arith, e))
+front_only (x ∷ xs) ys (suc n) e = ap (λ xs. x ∷ xs) (front_only xs ys n (omega (arith, e)))
+
+-- ---- nodes whose terms are taken out of them
+
 pub twice_set : (ns : List Node) (at : ℕ) (a b : Node) → set (set ns at a) at b ≡ set ns at b
 twice_set [] at a b = refl
 twice_set (n ∷ ns) zero a b = refl
@@ -142,21 +165,12 @@ same_node [] at a b lt ea eb = absurd (omega (arith, lt))
 same_node (n ∷ ns) zero a b lt ea eb = ea ∙ sym eb
 same_node (n ∷ ns) (suc at) a b lt ea eb = same_node ns at a b (omega (arith, lt)) ea eb
 
--- a node is made in the place of another, whose term was taken out of it
-pub node_numbered : (first : ℕ) (old now : List Node) (at next behind_it : ℕ) (node : Node) (held made : Node) → at < length now → node ≡ get_or now at node → IsNumbered first old now at next
-    → made.id ≡ next → made.place ≡ node.place → ((here : At) → tree_of here made.term ≡ numbered here (suc next) (plan_of node.term)) → behind_it ≡ suc next + inside (plan_of node.term) → plan_of made.term ≡ plan_of node.term
-    → IsNumbered first old (set (set now at held) at made) (at + 1) behind_it
-node_numbered first old now at next behind_it node held made lt e h id place tree_is count plan_is =
-    let one : at + 1 ≡ suc at = omega arith in
-    subst (λ ns. IsNumbered first old ns (at + 1) behind_it) (sym (twice_set now at held made))
-    (subst (λ n. IsNumbered first old (set now at made) n behind_it) (sym one) (next_numbered first old now at next behind_it node made lt e h id place tree_is count plan_is))
-
 -- ---- the numbers that the nodes need
 
 -- a node and the nodes inside it have their numbers among those of all nodes
-pub needed : (first : ℕ) (old now : List Node) (at next : ℕ) (node : Node) → at < length now → node ≡ get_or now at node → IsNumbered first old now at next → suc next + inside (plan_of node.term) ≤ first + nodes (plans_of old)
+pub needed : (first : ℕ) (old now : List Node) (at next : ℕ) (node : Node) → at < length now → node ≡ get_or now at node → IsNumbered first old now at next → suc next + inside (plan_of (get_or now at node).term) ≤ first + nodes (plans_of old)
 needed first old now at next node lt e h =
-    let here : nodes (plans_of (drop at old)) ≡ suc (inside (plan_of node.term) + nodes (plans_of (drop (suc at) now))) = ap (λ ns. nodes (plans_of ns)) (sym h.rest ∙ first_behind now at node lt e) ∙ one_count node (drop (suc at) now) in
+    let here : nodes (plans_of (drop at old)) ≡ suc (inside (plan_of (get_or now at node).term) + nodes (plans_of (drop (suc at) now))) = ap (λ ns. nodes (plans_of ns)) (sym h.rest ∙ first_behind now at (get_or now at node) lt (subst (λ n. n ≡ get_or now at n) e e)) ∙ one_count (get_or now at node) (drop (suc at) now) in
     omega (arith, here, h.count)
 
 pub where_none : {X : Type 0} (answer : Option X) (P : Type 0) → P → IfNone answer P

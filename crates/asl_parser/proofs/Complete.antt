@@ -21,7 +21,8 @@ use Rattle.asl_parser.specs.Signs.{strength}
 use Rattle.asl_parser.specs.Trees.{Tree, Trees, TreeGroup, none, more, absent}
 use Rattle.asl_parser.specs.Trees as t
 use Rattle.asl_parser.specs.Grow.{no_subtrees, joined, applied, item, grown, grown_all, grown_in}
-use Rattle.asl_parser.specs.Machine.{Config, Answer, source, stop, deep, depth, walk, unlimited, within, start, room, allow, settle, begin, begin_by, begin_sign, operator, sequence, sequence_by, sequence_sign, listed, listed_by, enclosed, enclosed_by, after, after_by, after_lexeme, word_by, called_by, argument, argument_by, first_argument, first_argument_by, element, element_by, first_element, first_element_by, step, run, finish, finish_whole, close_source}
+use Rattle.asl_parser.specs.Machine.{Config, Answer, source, stop, deep, depth, walk, unlimited, within, start, room, allow, settle, begin, begin_by, begin_sign, operator, sequence, sequence_by, sequence_sign, listed, listed_by, enclosed, enclosed_by}
+use Rattle.asl_parser.specs.Machine.{after, after_by, after_lexeme, word_by, called_by, argument, argument_by, first_argument, first_argument_by, element, element_by, first_element, first_element_by, step, run, finish, finish_whole, close_source}
 use Rattle.asl_parser.specs.Machine as m
 use Rattle.asl_parser.specs.Grammar.{at, sign, word, Phrase, expression, arguments, body, given, before, brace_list, members, member, sequence as row_of, all, is_paren, opens_paren, MayFollow, Reads, IsSource}
 use Rattle.asl_parser.specs.Grammar as g

@@ -8,7 +8,8 @@ use Rattle.asl_parser.specs.declared.raw.Raw.{Raw}
 use Rattle.asl_parser.specs.Marks.{marks}
 use Rattle.asl_parser.specs.Trees as t
 use Rattle.asl_parser.specs.Trees.{Tree, Trees, TreeGroup, none, more, absent, given, raw_of, raws_of, raws_in}
-use Rattle.asl_parser.specs.Grammar.{Phrase, expression, arguments, body, before, argument, brace_list, members, member, sequence, all, Reads, IsSource, Spells, a_number, a_text, an_item, in_brackets, an_index, a_postfix, a_prefix, an_infix, tighter, no_arguments, some_arguments, none_given, last_given, last_left_out, none_before, one_before, one_left_out, an_argument, a_list_argument, empty_list, a_list, no_members, more_members, a_word, an_inner_list, no_body, a_body, an_empty_row, a_comma, a_semicolon, one_more}
+use Rattle.asl_parser.specs.Grammar.{Phrase, expression, arguments, body, before, argument, brace_list, members, member, sequence, all, Reads, IsSource, Spells, a_number, a_text, an_item, in_brackets, an_index, a_postfix, a_prefix, an_infix, tighter, no_arguments, some_arguments}
+use Rattle.asl_parser.specs.Grammar.{none_given, last_given, last_left_out, none_before, one_before, one_left_out, an_argument, a_list_argument, empty_list, a_list, no_members, more_members, a_word, an_inner_list, no_body, a_body, an_empty_row, a_comma, a_semicolon, one_more}
 use Rattle.asl_parser.specs.Grammar as g
 use Rattle.asl_parser.specs.Written.{written, writtens, written_in}
 use Rattle.asl_parser.proofs.Views.{written_number, written_text, written_item, written_apply, written_list, written_comma, written_semicolon, written_empty}

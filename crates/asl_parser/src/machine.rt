@@ -374,7 +374,8 @@ fn enclosed(
 #[inline(never)]
 fn open_index(stack: &mut Stack, stage: &mut Stage, spot: Spot) -> Result<(), Refusal>
     requires one { IsOne stack.old.0 }
-    ensures { StepsTo result stage.new stack.new (spec.after_lexeme spot (lexemes.Sign signs.LeftBracket) (tree_of stack.old.0) stack.old.1) }
+    ensures { StepsTo result stage.new stack.new
+        (spec.after_lexeme spot (lexemes.Sign signs.LeftBracket) (tree_of stack.old.0) stack.old.1) }
 {
     if stack.room() < 1 {
         return Err(Refusal::Refused);

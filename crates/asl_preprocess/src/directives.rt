@@ -392,7 +392,8 @@ fn blanked(
     text: &[u8],
 ) -> Result<Option<Wanted>, ReadingStop>
     ensures { (state : State) → Shows work.old state →
-        Does result work.new branches.new (spec.of_blanked left_open file line text.now (record { state = state; branches = branches.old })) }
+        Does result work.new branches.new
+        (spec.of_blanked left_open file line text.now (record { state = state; branches = branches.old })) }
 {
     let place = Place {
         file,

@@ -212,7 +212,8 @@ pub fn preprocess<F: Files>(
 
     // A file that could not be read raised the count of faults, an absent main file that of absents, and no other
     // answer, want of memory among them, left the count of faults otherwise than it was.
-    ensures cause { IfErr result (λ stop. Causes stop (F.faults files.old) (F.faults files.new) (F.absents files.old) (F.absents files.new)) }
+    ensures cause { IfErr result
+        (λ stop. Causes stop (F.faults files.old) (F.faults files.new) (F.absents files.old) (F.absents files.new)) }
     ensures faults { OnOk result (F.faults files.new ≡ F.faults files.old) }
     ensures contents { F.contents files.new ≡ F.contents files.old }
     ensures later { F.faults files.old ≤ F.faults files.new }

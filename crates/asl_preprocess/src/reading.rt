@@ -51,7 +51,8 @@ fn take_row(
     row: Row<'_>,
 ) -> Result<Option<Wanted>, ReadingStop>
     ensures { (state : State) → Shows work.old state →
-        Does result work.new branches.new (spec.of_row enabled file (row_by row.entry) (record { state = state; branches = branches.old })) }
+        Does result work.new branches.new
+        (spec.of_row enabled file (row_by row.entry) (record { state = state; branches = branches.old })) }
 {
     match row {
         Row::Directive { line, text } => directive(alloc, work, branches, file, line, &text),
@@ -142,7 +143,8 @@ fn include<F: Files>(
 ) -> Result<(), ReadingStop>
     ensures reached { (state : State) → Shows work.old state → IsSound state → wanted.now.place.file < length state.files
         → Reaches result (F.contents files.old) work.new.files (λ later. Stands work.new later (length state.files))
-        (λ told. spec.included (spec.reading_at (setting_by told setting.now) own.now.levels) (setting_by told setting.now) own.now.name.now (asked_for wanted.now) wanted.now.place state) }
+        (λ told. spec.included (spec.reading_at (setting_by told setting.now) own.now.levels) (setting_by told setting.now) own.now.name.now
+        (asked_for wanted.now) wanted.now.place state) }
     ensures fault { (state : State) → Shows work.old state → IsSound state → wanted.now.place.file < length state.files →
         IfErr result (λ stop. Counts stop (F.faults files.old) (F.faults files.new)) }
     ensures faults { OnOk result (F.faults files.new ≡ F.faults files.old) }
@@ -183,7 +185,9 @@ fn pass_row<F: Files>(
 ) -> Result<(), ReadingStop>
     ensures reached { (state : State) → Shows work.old state → IsSound state → file.now.number < length state.files
         → Reaches result (F.contents files.old) work.new.files (λ later. StandsIn work.new branches.new later (length state.files))
-        (λ told. and_then (spec.of_row setting.now.enabled file.now.number (row_by row.entry) (record { state = state; branches = branches.old })) (spec.done (spec.reading_at (setting_by told setting.now) file.now.levels) (setting_by told setting.now) file.now.name.now)) }
+        (λ told. and_then
+        (spec.of_row setting.now.enabled file.now.number (row_by row.entry) (record { state = state; branches = branches.old }))
+        (spec.done (spec.reading_at (setting_by told setting.now) file.now.levels) (setting_by told setting.now) file.now.name.now)) }
     ensures fault { (state : State) → Shows work.old state → IsSound state → file.now.number < length state.files →
         IfErr result (λ stop. Counts stop (F.faults files.old) (F.faults files.new)) }
     ensures faults { OnOk result (F.faults files.new ≡ F.faults files.old) }

@@ -81,7 +81,8 @@ fn plain_end(text: &[u8]) -> Option<usize>
 // The first line of a file, what stands behind it, and whether the line is plain: it has neither a `"` nor a `/`. None
 // where there is no line.
 fn first_line(text: &[u8]) -> Option<(&[u8], &[u8], bool)>
-    ensures line { MatchOption result (spec.file_lines text.now ≡ []) (λ cut. spec.file_lines text.now ≡ cut.0.now ∷ spec.file_lines cut.1.now) }
+    ensures line { MatchOption result (spec.file_lines text.now ≡ [])
+        (λ cut. spec.file_lines text.now ≡ cut.0.now ∷ spec.file_lines cut.1.now) }
     ensures closed { IfSome result (λ cut. IsClosed cut.2 cut.0.now) }
     ensures asks_nothing { IfSome result (λ cut. AsksNothing cut.2 cut.0.now) }
 {

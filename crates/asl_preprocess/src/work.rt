@@ -199,7 +199,11 @@ impl Work {
         line: &OrdinaryLine<'_>,
     ) -> Result<(), ReadingStop>
         ensures { (state : State) (branches : List Branch) → Shows self.old state → Steps result self.new branches
-            (with_line (record { state = state; branches = branches }) (record { file = line.now.file; number = line.now.number; text = text_left enabled state.history line.now.in_comment line.now.text.whole.now })) }
+            (with_line (record { state = state; branches = branches }) (record {
+              file = line.now.file;
+              number = line.now.number;
+              text = text_left enabled state.history line.now.in_comment line.now.text.whole.now;
+            })) }
     {
         let place = Place {
             file: line.file,

@@ -39,7 +39,9 @@ use Rattle.asl_words.specs.Operators.{parameters_of, body_of, role_of, block_par
 use Rattle.acpi_values.specs.Integers.{wrapped}
 use Rattle.acpi_values.specs.declared.width.Width.TheVariants.{W64}
 use Rattle.asl_shape.specs.Symbols.{symbol_of}
-use Rattle.asl_shape.specs.Shapes.{Shaped, fine, fault_at, refused, unformed, holes_in, counted, count_faults, format_faults, room_faults, template_shape, descriptor_shape, nowhere, valued, evaluated, after, checked, is_member, is_given, takes, count, has_arguments, are_all_types, text_plan, number_shape, string_shape, text_shape, path_shape, call_shape, listed_shape, read_shape, item_shape, form_shape, symbol_shape, within, place_of, is_separator, is_listed, byte_slot, list_shape, skipped, run_after, bare, operands, call_args, arguments, arguments_in, contents, members, terms, inside_of, is_element, meaning_in, element_shape, macro_shape, macro_text, eisa_shape, uuid_shape, buffer_plan, is_field_list, begin, named_unit, begun, first_place, inner_place, element_place, unit_behind, no_comma, field_part, field_slot, due_behind, elements, case_member, case_value, is_case_member, member_count, is_case_package, cases, default_after}
+use Rattle.asl_shape.specs.Shapes.{Shaped, fine, fault_at, refused, unformed, holes_in, counted, count_faults, format_faults, room_faults, template_shape, descriptor_shape, nowhere, valued, evaluated, after, checked, is_member, is_given, takes, count, has_arguments, are_all_types, text_plan, number_shape, string_shape, text_shape}
+use Rattle.asl_shape.specs.Shapes.{path_shape, call_shape, listed_shape, read_shape, item_shape, form_shape, symbol_shape, within, place_of, is_separator, is_listed, byte_slot, list_shape, skipped, run_after, bare, operands, call_args, arguments, arguments_in, contents, members, terms, inside_of, is_element, meaning_in, element_shape}
+use Rattle.asl_shape.specs.Shapes.{macro_shape, macro_text, eisa_shape, uuid_shape, buffer_plan, is_field_list, begin, named_unit, begun, first_place, inner_place, element_place, unit_behind, no_comma, field_part, field_slot, due_behind, elements, case_member, case_value, is_case_member, member_count, is_case_package, cases, default_after}
 use Rattle.asl_words.specs.Resources.{descriptor_parameters, descriptor_body}
 use Rattle.resource_layout.specs.declared.descriptor.Descriptor.{Descriptor}
 use Rattle.asl_shape.specs.Descriptors.{is_roomy}
@@ -341,12 +343,14 @@ module _ (files : ℕ) where
       terms_told : (inside : Around) (run : Option ℕ) (ws : Writtens) → AreWithin files ws → AreTold files (terms inside run ws).faults
       terms_told inside run none h = tt
       terms_told inside run (more w ws) h =
-          skipped_told (is_separator w) (place_of nowhere w) (checked inside.width (slot.Term run) (place_of nowhere w) (bare (slot.Term run) inside w)) (terms inside (run_after run w) ws) (checked_told inside.width (slot.Term run) (place_of nowhere w) (bare (slot.Term run) inside w) (place_in nowhere w main h.0) (bare_told (slot.Term run) inside w h.0)) (terms_told inside (run_after run w) ws h.1)
+          skipped_told (is_separator w) (place_of nowhere w) (checked inside.width (slot.Term run) (place_of nowhere w) (bare (slot.Term run) inside w)) (terms inside (run_after run w) ws)
+          (checked_told inside.width (slot.Term run) (place_of nowhere w) (bare (slot.Term run) inside w) (place_in nowhere w main h.0) (bare_told (slot.Term run) inside w h.0)) (terms_told inside (run_after run w) ws h.1)
 
       cases_told : (inside : Around) (defaulted : Bool) (ws : Writtens) → AreWithin files ws → AreTold files (cases inside defaulted ws).faults
       cases_told inside defaulted none h = tt
       cases_told inside defaulted (more w ws) h =
-          skipped_told (is_separator w) (place_of nowhere w) (checked inside.width (slot.Branch defaulted) (place_of nowhere w) (bare (slot.Branch defaulted) inside w)) (cases inside (default_after defaulted w) ws) (checked_told inside.width (slot.Branch defaulted) (place_of nowhere w) (bare (slot.Branch defaulted) inside w) (place_in nowhere w main h.0) (bare_told (slot.Branch defaulted) inside w h.0)) (cases_told inside (default_after defaulted w) ws h.1)
+          skipped_told (is_separator w) (place_of nowhere w) (checked inside.width (slot.Branch defaulted) (place_of nowhere w) (bare (slot.Branch defaulted) inside w)) (cases inside (default_after defaulted w) ws)
+          (checked_told inside.width (slot.Branch defaulted) (place_of nowhere w) (bare (slot.Branch defaulted) inside w) (place_in nowhere w main h.0) (bare_told (slot.Branch defaulted) inside w h.0)) (cases_told inside (default_after defaulted w) ws h.1)
 
     inside_told : (fault : Option ℕ) (place : Place) (inside : List Message) → IsIn files place → AreTold files inside → AreTold files (errors_inside fault place inside)
     inside_told (Some n) place inside h k = one n place h

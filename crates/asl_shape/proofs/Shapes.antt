@@ -29,11 +29,13 @@ use Rattle.asl_words.specs.declared.operator.FieldWord.{FieldWord}
 use Rattle.asl_words.specs.Operators.{parameters_of, body_of, parameters_as, body_as, element_parameters, macro_parameters}
 use Rattle.asl_shape.specs.Shapes
 use Rattle.asl_shape.specs.Symbols.{symbol_of}
-use Rattle.asl_shape.specs.Shapes.{Shaped, fine, refused, template_shape, descriptor_shape, is_given, inside_of, has_arguments, after, checked, evaluated, number_shape, text_shape, listed_shape, form_shape, symbol_shape, read_shape, item_shape, path_shape, call_shape, known_plan, within, place_of, joined, missing, left_out, list_shape, skipped, is_separator, nowhere, bare, call_args, arguments, contents, meaning_in, element_shape, macro_shape, begin}
+use Rattle.asl_shape.specs.Shapes.{Shaped, fine, refused, template_shape, descriptor_shape, is_given, inside_of, has_arguments, after, checked, evaluated, number_shape, text_shape, listed_shape, form_shape, symbol_shape, read_shape, item_shape}
+use Rattle.asl_shape.specs.Shapes.{path_shape, call_shape, known_plan, within, place_of, joined, missing, left_out, list_shape, skipped, is_separator, nowhere, bare, call_args, arguments, contents, meaning_in, element_shape, macro_shape, begin}
 use Rattle.asl_words.specs.Meanings.{item_fault, meaning_of, reading_of, slot_as, unfit}
 use Rattle.asl_words.specs.Resources.{descriptor_parameters, descriptor_body}
 use Rattle.resource_layout.specs.declared.descriptor.Descriptor.{Descriptor}
-use Rattle.asl_shape.specs.AtRaw.{has_arguments_at, template_at, descriptor_at, inside_at, bare_at, listed_at, place_at, shape_at, is_separator_at, run_after_at, operands_at, call_at, arguments_at, arguments_in_at, contents_at, members_at, terms_at, member_at, argument_at, form_at, read_at, is_some, one_at, left_at, is_listed_at, byte_slot_at, item_at, meaning_at, element_at, macro_at, is_field_list_at, elements_at, cases_at, default_after_at}
+use Rattle.asl_shape.specs.AtRaw.{has_arguments_at, template_at, descriptor_at, inside_at, bare_at, listed_at, place_at, shape_at, is_separator_at, run_after_at, operands_at, call_at, arguments_at, arguments_in_at, contents_at, members_at}
+use Rattle.asl_shape.specs.AtRaw.{terms_at, member_at, argument_at, form_at, read_at, is_some, one_at, left_at, is_listed_at, byte_slot_at, item_at, meaning_at, element_at, macro_at, is_field_list_at, elements_at, cases_at, default_after_at}
 use Rattle.asl_parser.proofs.Views.{written_number, written_text, written_item, written_apply, written_list, written_comma, written_semicolon, written_empty}
 use Rattle.asl_shape.proofs.Terms.{term_rules, omitted_term, nothing_more}
 use Rattle.asl_shape.proofs.Braces.{given_some, from_item}
@@ -513,13 +515,15 @@ later_argument qs place inside raws i d lt =
       ap (λ k. join (argument_at (get_or qs i d) place inside (slice_get raws i)).made (arguments_in_at (drop k qs) place inside (drop k raws)).made) (add-one i) ∙ step.1 ∙ ap (λ xs. (arguments_in_at xs place inside (drop i raws)).made) (sym (drop-cons qs i d lt)),
     )
 
-pub argument_faults : (qs : List Parameter) (place : Place) (inside : Around) (raws : List Raw) (i : ℕ) (d : Parameter) (old new w : List Message) → i < length qs → old ++ (arguments_in_at (drop i qs) place inside (drop i raws)).faults ≡ w → new ≡ old ++ (argument_at (get_or qs i d) place inside (slice_get raws i)).faults → new ++ (arguments_in_at (drop (i + 1) qs) place inside (drop (i + 1) raws)).faults ≡ w
+pub argument_faults : (qs : List Parameter) (place : Place) (inside : Around) (raws : List Raw) (i : ℕ) (d : Parameter) (old new w : List Message) → i < length qs → old ++ (arguments_in_at (drop i qs) place inside (drop i raws)).faults ≡ w
+    → new ≡ old ++ (argument_at (get_or qs i d) place inside (slice_get raws i)).faults → new ++ (arguments_in_at (drop (i + 1) qs) place inside (drop (i + 1) raws)).faults ≡ w
 argument_faults qs place inside raws i d old new w lt e f =
     ap (λ ms. ms ++ (arguments_in_at (drop (i + 1) qs) place inside (drop (i + 1) raws)).faults) f
     ∙ append_assoc old (argument_at (get_or qs i d) place inside (slice_get raws i)).faults (arguments_in_at (drop (i + 1) qs) place inside (drop (i + 1) raws)).faults
     ∙ ap (λ ms. old ++ ms) (later_argument qs place inside raws i d lt).0 ∙ e
 
-pub argument_made : (qs : List Parameter) (place : Place) (inside : Around) (raws : List Raw) (i : ℕ) (d : Parameter) (old new w : Plans) → i < length qs → join old (arguments_in_at (drop i qs) place inside (drop i raws)).made ≡ w → new ≡ join old (argument_at (get_or qs i d) place inside (slice_get raws i)).made → join new (arguments_in_at (drop (i + 1) qs) place inside (drop (i + 1) raws)).made ≡ w
+pub argument_made : (qs : List Parameter) (place : Place) (inside : Around) (raws : List Raw) (i : ℕ) (d : Parameter) (old new w : Plans) → i < length qs → join old (arguments_in_at (drop i qs) place inside (drop i raws)).made ≡ w
+    → new ≡ join old (argument_at (get_or qs i d) place inside (slice_get raws i)).made → join new (arguments_in_at (drop (i + 1) qs) place inside (drop (i + 1) raws)).made ≡ w
 argument_made qs place inside raws i d old new w lt e f =
     ap (λ ms. join ms (arguments_in_at (drop (i + 1) qs) place inside (drop (i + 1) raws)).made) f
     ∙ join_assoc old (argument_at (get_or qs i d) place inside (slice_get raws i)).made (arguments_in_at (drop (i + 1) qs) place inside (drop (i + 1) raws)).made

@@ -233,7 +233,8 @@ pub fn describe(
         ++ spec.room_faults (table.is_roomy descriptor (plans_of args.now) (plans_of body.now)) place) }
     ensures made { IfOk result (λ term. plan_of term ≡ table.described descriptor (plans_of args.now) (plans_of body.now)) }
     ensures reads { OnOk result (table.is_roomy descriptor (plans_of args.now) (plans_of body.now) ≡ true
-        → IsResource (row_of descriptor) (table.descriptor_arguments descriptor (plans_of args.now)) (table.member_nodes (plans_of body.now)) (table.own_bytes descriptor (plans_of args.now) (plans_of body.now))) }
+        → IsResource (row_of descriptor) (table.descriptor_arguments descriptor (plans_of args.now))
+        (table.member_nodes (plans_of body.now)) (table.own_bytes descriptor (plans_of args.now) (plans_of body.now))) }
 {
     let mut arguments = Vec::new(alloc);
     add_arguments(alloc, &mut arguments, fields_of(descriptor), args)?;

@@ -353,7 +353,8 @@ fn descriptor(
     args: &Option<Raws>,
     body: &Option<Raws>,
 ) -> Result<Term, AllocError>
-    ensures faults { OnOk result (work.new.faults.items ≡ work.old.faults.items ++ (at.descriptor_at of place inside args.now body.now).faults) }
+    ensures faults { OnOk result
+        (work.new.faults.items ≡ work.old.faults.items ++ (at.descriptor_at of place inside args.now body.now).faults) }
     ensures made { IfOk result (λ term. plan_of term ≡ (at.descriptor_at of place inside args.now body.now).made) }
 {
     let mut nodes = Vec::new(alloc);
@@ -527,7 +528,8 @@ fn contents(
     raws: &Option<Raws>,
 ) -> Result<(), AllocError>
     ensures faults { OnOk result (work.new.faults.items ≡ work.old.faults.items ++ (at.contents_at body inside place raws.now).faults) }
-    ensures made { OnOk result (plans_of nodes.new.items ≡ join (plans_of nodes.old.items) (at.contents_at body inside place raws.now).made) }
+    ensures made { OnOk result
+        (plans_of nodes.new.items ≡ join (plans_of nodes.old.items) (at.contents_at body inside place raws.now).made) }
 {
     let Some(raws) = raws else {
         return Ok(());
@@ -600,7 +602,8 @@ fn field_elements(
     inside: Around,
     raws: &[Raw],
 ) -> Result<(), AllocError>
-    ensures faults { OnOk result (work.new.faults.items ≡ work.old.faults.items ++ (at.elements_at spec.begin None inside raws.now).faults) }
+    ensures faults { OnOk result
+        (work.new.faults.items ≡ work.old.faults.items ++ (at.elements_at spec.begin None inside raws.now).faults) }
     ensures made { OnOk result
         (plans_of nodes.new.items ≡ join (plans_of nodes.old.items) (at.elements_at spec.begin None inside raws.now).made) }
 {

@@ -115,7 +115,8 @@ fn block_terms(
     body: &[Raw],
 ) -> Result<(), AllocError>
     ensures faults { OnOk result (work.new.faults.items ≡ work.old.faults.items ++ (spec.terms_in (plans_of args.now) body.now).faults) }
-    ensures made { OnOk result (plans_of list.new.items ≡ join (plans_of list.old.items) (spec.terms_in (plans_of args.now) body.now).made) }
+    ensures made { OnOk result
+        (plans_of list.new.items ≡ join (plans_of list.old.items) (spec.terms_in (plans_of args.now) body.now).made) }
 {
     let around = outside(Width::of_revision(revision_in(args)));
     Ok(terms(alloc, work, list, around, body)?)
@@ -146,8 +147,8 @@ fn inside(
 // A block whose arguments and braces are there.
 #[tactic(auto, using(crate::proofs::Units::block_rules))]
 fn shaped(alloc: Global, place: Place, args: &[Raw], body: &[Raw]) -> Result<Block, Stage>
-    ensures formed { IfOk result (λ block. (spec.errors_in place args.now body.now ≡ []) × spec.IsBlock place (spec.args_in place args.now).made
-        (spec.terms_in (spec.args_in place args.now).made body.now).made block) }
+    ensures formed { IfOk result (λ block. (spec.errors_in place args.now body.now ≡ [])
+        × spec.IsBlock place (spec.args_in place args.now).made (spec.terms_in (spec.args_in place args.now).made body.now).made block) }
     ensures refused { IfErr result (λ stage. at.Refuses stage (spec.errors_in place args.now body.now)) }
 {
     let mut work = Work {

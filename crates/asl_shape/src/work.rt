@@ -293,7 +293,8 @@ pub fn evaluate(
     place: Place,
     term: Term,
 ) -> Result<Term, AllocError>
-    ensures faults { OnOk result (work.new.faults.items ≡ work.old.faults.items ++ (spec.evaluated width slot place (plan_of term)).faults) }
+    ensures faults { OnOk result
+        (work.new.faults.items ≡ work.old.faults.items ++ (spec.evaluated width slot place (plan_of term)).faults) }
     ensures made { IfOk result (λ made. plan_of made ≡ (spec.evaluated width slot place (plan_of term)).made) }
 {
     match outcome_of(width, slot, &term) {

@@ -29,7 +29,7 @@ use Rattle.program_shapes.proofs.NotePlaces.{source_notes_within}
 use Rattle.asl_tables.proofs.CopyPlaces.{copies_within}
 use Rattle.program_shapes.proofs.TreePlaces.{plans_within, checked_plans_within, program_within}
 use Rattle.descriptor_shapes.proofs.ToldPlaces.{names_told_within, kinds_told_within}
-use Rattle.aml_writer.specs.Written.{most_table_bytes}
+use Rattle.aml_sizes.specs.TableSizes.{most_table_bytes}
 use Rattle.block_outcomes.specs.declared.outcome.Class.{Class}
 use Rattle.block_outcomes.specs.declared.outcome.Class.TheVariants as class
 use Rattle.block_outcomes.specs.declared.outcome.Compiled.{Compiled}
@@ -38,7 +38,8 @@ use Rattle.block_outcomes.specs.declared.outcome.Outcome.{Outcome}
 use Rattle.block_outcomes.specs.declared.outcome.Outcome.TheVariants.{Done, Faulty}
 use Rattle.asl_tables.specs.Syntax.{at_token}
 use Rattle.asl_tables.specs.declared.compile.Style.{Style}
-use Rattle.asl_tables.specs.Compiled.{own_in, literals_in, noted_in, all_noted, told_in, others_in, copies_in, unlowered_in, AreWithin, too_long, of_table, unless_wrong, is_of_kinds, with_others, outcome_in, outcomes_in, of_items, written_in, cut_in, TellsWithin}
+use Rattle.asl_tables.specs.Compiled.{own_in, literals_in, noted_in, all_noted, told_in, others_in, copies_in, unlowered_in, AreWithin, too_long, of_table, unless_wrong, outcome_in, outcomes_in, of_items, written_in, cut_in, TellsWithin}
+use Rattle.block_checks.specs.Told.{is_of_kinds, with_others}
 use Rattle.block_outcomes.specs.Joined.{first_told, unless_refused, unless_noted, class_in, is_class_in, if_class, of_class, later_errors, tables_among, joined}
 
 module _ (files : ℕ) where

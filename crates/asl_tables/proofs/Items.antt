@@ -13,7 +13,7 @@ use Rattle.asl_parser.specs.declared.raw.Raw.{Raw}
 use Rattle.asl_parser.specs.Written.{writtens}
 use Rattle.asl_tree.specs.declared.program.Block.{Block}
 use Rattle.asl_shape.specs.Forms.{errors_at, source_errors, alone, block_place, IsBlockOf, AreBlocksOf, AreRight}
-use Rattle.aml_writer.specs.Written.{most_table_bytes}
+use Rattle.aml_sizes.specs.TableSizes.{most_table_bytes}
 use Rattle.program_shapes.specs.Kept.{IsKeptSource, AreKeptAlone}
 use Rattle.program_shapes.specs.Sources.{fields_in}
 use Rattle.program_shapes.proofs.OwnNames.{own_is_ascii}
@@ -24,7 +24,8 @@ use Rattle.block_outcomes.specs.declared.outcome.Compiled.TheVariants.{Made}
 use Rattle.block_outcomes.specs.declared.outcome.Outcome.{Outcome}
 use Rattle.block_outcomes.specs.declared.outcome.Outcome.TheVariants.{Done, Faulty}
 use Rattle.block_outcomes.specs.declared.outcome.Sorted.{Sorted}
-use Rattle.asl_tables.specs.Compiled.{own_in, told_in, others_in, unlowered_in, with_others, noted_in, all_noted, unless_wrong, of_table, written_in, cut_in, too_long, outcome_in, outcomes_in, of_items, HaveAsciiNames, HasAsciiNames}
+use Rattle.asl_tables.specs.Compiled.{own_in, told_in, others_in, unlowered_in, noted_in, all_noted, unless_wrong, of_table, written_in, cut_in, too_long, outcome_in, outcomes_in, of_items, HaveAsciiNames, HasAsciiNames}
+use Rattle.block_checks.specs.Told.{with_others}
 use Rattle.block_outcomes.specs.Joined.{unless_refused, unless_noted, of_class, tables_among, later_errors, joined}
 use Rattle.block_outcomes.specs.Sorted.{AreSorted}
 

@@ -6,7 +6,5 @@ pub mod Items
 pub mod Sources
 pub mod Homes
 pub mod Given
-pub mod Named
-pub mod Owners
 pub mod CopyPlaces
 pub mod Results

@@ -1,10 +1,9 @@
 -- What a block, a program and a source come to.
 use Rattle.std.proofs.Common.{ℕ, ◌≡◌, ◌<◌, ◌≤◌, ◌^◌, length, List, [], ◌∷◌, Result, Ok, Err, refl, sym, ap, ◌∙◌, subst, arith}
-use Rattle.std.specs.Prelude.{IfOk, if◌then◌else◌, ◌++◌, Bool, true, false}
+use Rattle.std.specs.Prelude.{IfOk, ◌++◌}
 use Rattle.std.specs.declared.alloc.AllocError.{AllocError}
 use Rattle.iasl_messages.specs.declared.message.Stage.{Stage}
 use Rattle.iasl_messages.specs.declared.message.Stage.TheVariants.{Refused as Refused'}
-use Rattle.name_checks.specs.Refusals.{Refuses}
 use Rattle.asl_shape.specs.AtRaw.{Refuses as ShapeRefuses}
 use Rattle.std.proofs.lemmas.Nat.{mod_below}
 use Rattle.iasl_messages.specs.declared.message.Message.{Message}
@@ -13,7 +12,7 @@ use Rattle.asl_tree.specs.Tree.{Trees}
 use Rattle.aml_code.specs.Header.{HeaderFields, fields_of}
 use Rattle.named_sessions.specs.Shaped.{AreFormed, AreNamed, AreShaped}
 use Rattle.asl_lower.specs.Nodes.{named_all}
-use Rattle.asl_formats.specs.Forms.{formed_all}
+use Rattle.asl_prints.specs.Forms.{formed_all}
 use Rattle.form_shapes.specs.Near.{AreNear}
 use Rattle.hidden_locals.specs.Switches.{without_switches}
 use Rattle.asl_parser.specs.declared.raw.Raw.{Raw}
@@ -23,14 +22,11 @@ use Rattle.asl_shape.specs.Forms.{IsBlock, IsBlockOf, errors_at, args_of, block_
 use Rattle.asl_numbers.specs.Numbers.{numbered_all}
 use Rattle.program_shapes.specs.Kept.{IsKeptSource}
 use Rattle.program_shapes.specs.Sources.{plans_in, terms_in, statements_in, layouts_in, regions_in, types_in, sizes_in, values_in, notes_in, fields_in, width_in, IsRight}
-use Rattle.region_checks.specs.Regions.{region_errors}
-use Rattle.type_checks.specs.Types.{wrong_types}
 use Rattle.iasl_messages.specs.declared.place.Place.{Place}
 use Rattle.iasl_messages.specs.declared.place.Line.{Line}
 use Rattle.source_pieces.specs.Places.{core_places}
 use Rattle.program_shapes.proofs.Blocks.{terms_as, room_in}
-use Rattle.descriptor_names.specs.Resolved.{checked_terms, resolved_terms}
-use Rattle.descriptor_names.specs.Told.{checked_trees}
+use Rattle.descriptor_checks.specs.Resolved.{resolved_terms}
 use Rattle.program_shapes.proofs.Headers.{HaveRoom}
 use Rattle.program_shapes.proofs.Tables.{terms_are_formed, terms_are_near, core_is_shaped}
 use Rattle.acpi_values.specs.Revisions.{width_of}
@@ -39,11 +35,10 @@ use Rattle.block_outcomes.specs.declared.outcome.Compiled.TheVariants.{Refused}
 use Rattle.block_outcomes.specs.declared.outcome.Outcome.{Outcome}
 use Rattle.block_outcomes.specs.declared.outcome.Outcome.TheVariants.{Faulty}
 use Rattle.asl_tables.specs.declared.compile.Style.{Style}
-use Rattle.asl_tables.specs.Compiled.{table_with, its_pieces, unless_wrong, told_of_names, told_in, is_of_kinds, others_in, with_others, own_in, of_table, of_terms, unlowered, unlowered_in, outcome_in}
+use Rattle.asl_tables.specs.Compiled.{table_with, its_pieces, unless_wrong, told_in, others_in, own_in, of_table, of_terms, unlowered, unlowered_in, outcome_in}
 use Rattle.block_outcomes.specs.Joined.{unless_refused, first_told}
-use Rattle.asl_tables.specs.Findings.{others_of}
-use Rattle.asl_tables.specs.Ready.{HasRoom}
-use Rattle.asl_tables.proofs.Named.{noted_of}
+use Rattle.block_checks.specs.Told.{errors_beside_names, noted_of, told_of_names}
+use Rattle.asl_tables.specs.Ready.{FitsHeader}
 
 -- errors that there are
 pub refused_is : (messages errors : List Message) (it : Outcome) → (messages ≡ errors) × (errors ≡ [] → ⊥) → Faulty messages ≡ unless_wrong errors it
@@ -57,28 +52,6 @@ right_is errors it other e h = h ∙ sym (ap (λ es. unless_wrong es other) e)
 -- nothing is told first, nor else
 pub none_first : (messages others : List Message) → messages ≡ [] → others ≡ [] → first_told messages others ≡ []
 none_first messages others e f = ap (λ ms. first_told ms others) e ∙ f
-
--- nor of statements
-pub none_behind : (errors statements : List Message) → errors ≡ [] → statements ≡ [] → with_others errors statements ≡ []
-none_behind errors statements e s = ap (λ es. with_others es statements) e ∙ s
-
--- errors of statements alone
-pub behind_none : (errors statements : List Message) → errors ≡ [] → statements ≡ with_others errors statements
-behind_none errors statements e = sym (ap (λ es. with_others es statements) e)
-
--- what is told of errors is something
-pub some_behind : (errors statements : List Message) → (errors ≡ [] → ⊥) → with_others errors statements ≡ [] → ⊥
-some_behind [] statements h e = h refl
-some_behind (m ∷ ms) statements h e = by (is_of_kinds m.number) e
-  where
-    by : (b : Bool) → (if b then (m ∷ ms) ++ statements else m ∷ ms) ≡ [] → ⊥
-    by true e = absurd cc
-    by false e = absurd cc
-
--- messages that come first, with errors of statements behind them
-pub told_comes : (told errors statements all : List Message) (it : Outcome) → (length told ≡ 0 → ⊥) → all ≡ with_others told statements → Faulty all ≡ unless_wrong (with_others (first_told told errors) statements) it
-told_comes [] errors statements all it h is = absurd (h refl)
-told_comes (m ∷ ms) errors statements all it h is = refused_is all (with_others (m ∷ ms) statements) it (is, some_behind (m ∷ ms) statements (λ e. absurd cc))
 
 -- a block as it is compiled: its source's, with the fields of its descriptors as constants
 abbrev pub IsResolvedOf : List Raw → Block → Type 0
@@ -107,27 +80,24 @@ pub same_told : (items : List Raw) (block : Block) (names : List Message) → Is
 unfolding IsBlockOf
 same_told items block names h e = e ∙ ap told_of_names h.terms
 
--- so are the accesses to its regions, the kinds of its arguments, and the notes on its names
-pub same_regions : (items : List Raw) (block : Block) (regions : List Message) → IsBlockOf items block → regions ≡ region_errors (width_of block.revision) (checked_trees (plans_of block.terms.items)) (checked_terms (plans_of block.terms.items)) → regions ≡ regions_in items
+-- so is what else is wrong with it, and the notes on its names
+pub same_others : (items : List Raw) (block : Block) (errors : List Message) → IsBlockOf items block → errors ≡ errors_beside_names (width_of block.revision) (plans_of block.terms.items) → errors ≡ others_in items
 unfolding IsBlockOf
-same_regions items block regions h e =
-    e ∙ ap (λ n. region_errors (width_of n) (checked_trees (plans_of block.terms.items)) (checked_terms (plans_of block.terms.items))) h.revision
-    ∙ ap (λ ps. region_errors (width_in items) (checked_trees ps) (checked_terms ps)) h.terms
-
-pub same_types : (items : List Raw) (block : Block) (types : List Message) → IsBlockOf items block → types ≡ wrong_types (checked_trees (plans_of block.terms.items)) (checked_terms (plans_of block.terms.items)) → types ≡ types_in items
-unfolding IsBlockOf
-same_types items block types h e = e ∙ ap (λ ps. wrong_types (checked_trees ps) (checked_terms ps)) h.terms
+same_others items block errors h e =
+    e ∙ ap (λ n. errors_beside_names (width_of n) (plans_of block.terms.items)) h.revision
+    ∙ ap (errors_beside_names (width_in items)) h.terms
 
 pub same_notes : (items : List Raw) (block : Block) (notes : List Message) → IsBlockOf items block → notes ≡ noted_of (plans_of block.terms.items) → notes ≡ notes_in items
 unfolding IsBlockOf
 same_notes items block notes h e = e ∙ ap noted_of h.terms
 
 -- the width of its integers
-pub same_width : (items : List Raw) (block : Block) → IsResolvedOf items block → width_of block.revision ≡ width_in items
+pub same_width : (items : List Raw) (block : Block) → IsBlockOf items block → width_of block.revision ≡ width_in items
+unfolding IsBlockOf
 same_width items block h = ap width_of h.revision
 
 -- the header of a block has room
-pub block_room : (items : List Raw) (block : Block) → errors_at items ≡ [] → IsResolvedOf items block → IsKeptSource (writtens items) → HasRoom (fields_of block)
+pub block_room : (items : List Raw) (block : Block) → errors_at items ≡ [] → IsResolvedOf items block → IsKeptSource (writtens items) → FitsHeader (fields_of block)
 unfolding errors_at
 block_room items block e h k =
     let room : HaveRoom (args_of (writtens items)) = room_in (writtens items) e k in
@@ -140,14 +110,6 @@ block_room items block e h k =
 
 same_terms : (items : List Raw) (block : Block) (terms : Trees) → IsResolvedOf items block → terms ≡ numbered_all 0 (plans_of block.terms.items) → terms ≡ terms_in items
 same_terms items block terms h e = e ∙ ap (numbered_all 0) h.terms
-
--- what else is wrong with it, with its accesses and the kinds of its arguments, is what is wrong with its source
-pub same_others : (items : List Raw) (block : Block) (regions types : List Message) → IsResolvedOf items block → regions ≡ regions_in items → types ≡ types_in items → others_of (width_of block.revision) (plans_of block.terms.items) regions types ≡ others_in items
-same_others items block regions types h r t =
-    ap (λ n. others_of (width_of n) (plans_of block.terms.items) regions types) h.revision
-    ∙ ap (λ ps. others_of (width_in items) ps regions types) h.terms
-    ∙ ap (λ rs. others_of (width_in items) (plans_in items) rs types) r
-    ∙ ap (others_of (width_in items) (plans_in items) (regions_in items)) t
 
 -- its terms, numbered, are formed
 pub block_formed : (items : List Raw) (block : Block) (terms : Trees) → errors_at items ≡ [] → IsResolvedOf items block → IsKeptSource (writtens items) → terms ≡ numbered_all 0 (plans_of block.terms.items) → AreFormed (Unit {0}) AreNamed (Unit {0}) (Unit {0}) terms
@@ -253,12 +215,6 @@ like_another style lines r place other inner places file own fields header terms
     (subst (λ f. IfOk r (λ it. it ≡ part_table style lines place inner f header terms)) f
     (subst (λ (h : HeaderFields). IfOk r (λ it. it ≡ part_table style lines place inner file h terms)) h e)))
 
--- a stage that refuses, with errors of statements behind its own
-pub stage_comes : (stage : Stage) (messages errors statements all : List Message) (it : Outcome) → Refuses stage errors → stage ≡ Refused' messages → all ≡ with_others messages statements → Faulty all ≡ unless_wrong (with_others errors statements) it
-stage_comes stage messages errors statements all it h e is =
-    let told = subst (λ (s : Stage). Refuses s errors) e h in
-    refused_is all (with_others errors statements) it (is ∙ ap (λ es. with_others es statements) told.0, some_behind errors statements told.1)
-
 -- errors of the form
 shape_told : (messages errors : List Message) (it : Compiled) → (messages ≡ errors) × (errors ≡ [] → ⊥) → Refused messages ≡ unless_refused errors it
 shape_told messages [] it h = absurd (h.1 refl)
@@ -266,12 +222,3 @@ shape_told messages (m ∷ ms) it h = ap Refused h.0
 
 pub shape_comes : (stage : Stage) (messages errors : List Message) (it : Compiled) → ShapeRefuses stage errors → stage ≡ Refused' messages → Refused messages ≡ unless_refused errors it
 shape_comes stage messages errors it h e = shape_told messages errors it (subst (λ (s : Stage). ShapeRefuses s errors) e h)
-
--- lists that are empty, and others
-pub no_length : (messages : List Message) → length messages ≡ 0 → messages ≡ []
-no_length [] e = refl
-no_length (m ∷ ms) e = absurd (omega (arith, e))
-
-pub some_length : (messages : List Message) (it : Outcome) (errors : List Message) → errors ≡ [] → (length messages ≡ 0 → ⊥) → Faulty messages ≡ unless_wrong (with_others errors messages) it
-some_length [] it errors e h = absurd (h refl)
-some_length (m ∷ ms) it errors e h = sym (ap (λ es. unless_wrong (with_others es (m ∷ ms)) it) e)

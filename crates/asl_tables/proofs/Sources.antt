@@ -10,18 +10,20 @@ use Rattle.asl_parser.specs.declared.raw.Raw.{Raw}
 use Rattle.asl_parser.specs.Written.{writtens}
 use Rattle.asl_shape.specs.Forms.{errors_at, source_errors, alone, block_place, AreRight}
 use Rattle.asl_shape.proofs.Units.{each_right, right_source}
-use Rattle.aml_writer.specs.Written.{most_table_bytes}
+use Rattle.aml_sizes.specs.TableSizes.{most_table_bytes}
 use Rattle.program_shapes.specs.Sources.{names_in, uses_in, locals_in, fields_in, IsRight, EachRight, IsRightSource}
 use Rattle.asl_tables.specs.declared.compile.Style.{Style}
 use Rattle.block_outcomes.specs.declared.outcome.Compiled.TheVariants.{Made}
 use Rattle.block_outcomes.specs.declared.outcome.Outcome.{Outcome}
 use Rattle.block_outcomes.specs.declared.outcome.Outcome.TheVariants.{Done, Faulty}
 use Rattle.block_outcomes.specs.declared.outcome.Table.{Table}
-use Rattle.asl_tables.specs.Compiled.{own_in, told_in, others_in, with_others, all_noted, unless_wrong, of_table, written_in, cut_in, too_long, copies_in, unlowered_in, outcome_in, outcomes_in, of_items, tables_of, IsWithin, EachWithin}
+use Rattle.asl_tables.specs.Compiled.{own_in, told_in, others_in, all_noted, unless_wrong, of_table, written_in, cut_in, too_long, copies_in, unlowered_in, outcome_in, outcomes_in, of_items, tables_of, IsWithin, EachWithin}
 use Rattle.block_outcomes.specs.Joined.{unless_refused, tables_among, joined}
 use Rattle.block_outcomes.proofs.Joins.{table_with, AreDone, AreSome, done_joined, made_done}
-use Rattle.asl_tables.proofs.Named.{both_first}
-use Rattle.asl_tables.proofs.Programs.{none_first, none_behind, none_of_others, both_right, some_behind}
+use Rattle.block_checks.specs.Told.{with_others}
+use Rattle.block_checks.proofs.Classes.{none_behind, both_none}
+use Rattle.block_checks.proofs.Named.{both_first}
+use Rattle.asl_tables.proofs.Programs.{none_first, none_of_others, both_right}
 
 -- nothing is told of the names of a right block
 nothing_told : (items : List Raw) → IsRight items → told_in items ≡ []
@@ -84,10 +86,6 @@ made_of style lines items right within =
 both_empty : (first second : List Message) → first ++ second ≡ [] → (first ≡ []) × (second ≡ [])
 both_empty [] second e = (refl, e)
 both_empty (m ∷ ms) second e = absurd cc
-
-both_none : (errors statements : List Message) → with_others errors statements ≡ [] → (errors ≡ []) × (statements ≡ [])
-both_none [] statements e = (refl, e)
-both_none (m ∷ ms) statements e = absurd (some_behind (m ∷ ms) statements (λ f. absurd cc) e)
 
 abbrev IsDone : Outcome → Type 0
 IsDone (Done signature own pieces) = Unit {0}

@@ -15,12 +15,13 @@ use Rattle.aml_meaning.specs.Encoded.{encoded_all}
 use Rattle.aml_code.specs.Header.{fields_of, table_bytes}
 use Rattle.aml_sessions.specs.Ready.{IsReadyBlock, AreReady}
 use Rattle.aml_sessions.proofs.Tables.{length_is}
-use Rattle.aml_writer.specs.Styles.{style_of}
-use Rattle.aml_writer.specs.TermBytes.{nodes_bytes}
-use Rattle.aml_writer.specs.Written.{most_table_bytes, IsTableOf, IsTable, IsTooLong}
-use Rattle.aml_writer.specs.Pieces.{joined_pieces}
+use Rattle.aml_sizes.specs.Styles.{style_of}
+use Rattle.aml_sizes.specs.TermBytes.{nodes_bytes}
+use Rattle.aml_sizes.specs.TableSizes.{most_table_bytes, IsTooLong}
+use Rattle.aml_writer.specs.Written.{IsTableOf, IsTable}
+use Rattle.aml_sizes.specs.Pieces.{joined_pieces}
 use Rattle.aml_writer.specs.Cuts.{table_parts, pieces_with, IsCut}
-use Rattle.aml_writer.proofs.Tables.{ready_bytes}
+use Rattle.aml_sizes.proofs.Encodings.{ready_bytes}
 use Rattle.named_sessions.specs.Core.{core_of}
 use Rattle.named_sessions.proofs.Settles.{knows_start}
 use Rattle.named_sessions.proofs.Main.{is_ready}

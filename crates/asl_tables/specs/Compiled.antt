@@ -1,5 +1,5 @@
 -- What a source of ASL comes to: a table for each of its blocks, or errors.
-use Rattle.std.specs.Prelude.{◌≡◌, ℕ, suc, ◌-◌, nat_le, nat_eq, Bool, ◌||◌, if◌then◌else◌, List, [], ◌∷◌, ◌++◌, length, All, ◌<◌, ◌≤◌, ⊤}
+use Rattle.std.specs.Prelude.{◌≡◌, ℕ, suc, ◌-◌, nat_le, if◌then◌else◌, List, [], ◌∷◌, ◌++◌, length, All, ◌<◌, ◌≤◌, ⊤}
 use Rattle.std.specs.Prelude.{Result, Ok, Err}
 use Rattle.iasl_messages.specs.declared.place.Place.{Place}
 use Rattle.iasl_messages.specs.declared.place.Line.{Line}
@@ -13,16 +13,15 @@ use Rattle.asl_tree.specs.Tree.{Trees}
 use Rattle.asl_tree.specs.declared.program.Block.{Block}
 use Rattle.aml_code.specs.Header.{HeaderFields, table_bytes, fields_of}
 use Rattle.aml_meaning.specs.Encoded.{encoded_all}
-use Rattle.aml_writer.specs.Written.{most_table_bytes}
+use Rattle.aml_sizes.specs.TableSizes.{most_table_bytes}
 use Rattle.aml_writer.specs.Cuts.{table_parts, pieces_with}
 use Rattle.named_sessions.specs.Core.{core_of}
 use Rattle.asl_lower.specs.Nodes.{named_all}
 use Rattle.asl_fold.specs.Folds.{folded_where}
 use Rattle.wrapped_externals.specs.Wraps.{wrapped_where}
 use Rattle.wrapped_externals.specs.Starts.{placed_where}
-use Rattle.asl_formats.specs.Forms.{formed_all}
+use Rattle.asl_prints.specs.Forms.{formed_all}
 use Rattle.hidden_locals.specs.Switches.{without_switches}
-use Rattle.descriptor_names.specs.Told.{names_told, kinds_told}
 use Rattle.asl_parser.specs.declared.raw.Raw.{Raw}
 use Rattle.asl_parser.specs.Parse.{ParseOutcome, outcome, read, stopped, sunk, tall}
 use Rattle.asl_parser.specs.Written.{writtens}
@@ -42,7 +41,8 @@ use Rattle.block_outcomes.specs.declared.outcome.Compiled.TheVariants.{Made, Ref
 use Rattle.block_outcomes.specs.declared.outcome.Outcome.{Outcome}
 use Rattle.block_outcomes.specs.declared.outcome.Outcome.TheVariants.{Done, Faulty}
 use Rattle.block_outcomes.specs.declared.outcome.Table.{Table}
-use Rattle.block_outcomes.specs.Joined.{first_told, unless_refused, joined}
+use Rattle.block_outcomes.specs.Joined.{unless_refused, joined}
+use Rattle.block_checks.specs.Told.{told_of_names, with_others}
 use Rattle.asl_tables.specs.Syntax.{not_source, too_deep}
 
 -- a table of more than 16 MiB: 6080 at the block
@@ -75,21 +75,6 @@ lowered_as style fields terms = folded_where style.fold (width_of fields.revisio
 abbrev pub unless_wrong : List Message → Outcome → Outcome
 unless_wrong [] it = it
 unless_wrong (m ∷ ms) it = Faulty (m ∷ ms)
-
--- what is told of the names of terms, those of resource descriptors among these, or where nothing is, of what names stand
--- for
-abbrev pub told_of_names : Plans → List Message
-told_of_names written = first_told (names_told written) (kinds_told written)
-
--- the numbers of the errors of names that are of the class of kinds
-abbrev pub is_of_kinds : ℕ → Bool
-is_of_kinds number = nat_eq number 6051 || (nat_eq number 6054 || (nat_eq number 6050 || (nat_eq number 6056 || nat_eq number 6020)))
-
--- the errors of statements and of the lists of fields are of the class of kinds: they come behind these, and not where names are
--- wrong
-abbrev pub with_others : List Message → List Message → List Message
-with_others [] others = others
-with_others (m ∷ ms) others = if is_of_kinds m.number then (m ∷ ms) ++ others else m ∷ ms
 
 -- the table of a block of this form in which nothing is wrong, whose terms stand at these places once they are lowered
 abbrev pub of_right : Style → List Line → Place → List Place → List ℕ → HeaderFields → Trees → Outcome

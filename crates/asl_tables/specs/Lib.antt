@@ -1,4 +1,3 @@
 pub mod Syntax
 pub mod Compiled
 pub mod Ready
-pub mod Findings

@@ -9,7 +9,7 @@ use Rattle.named_sessions.specs.Shaped.{AreShaped}
 use Rattle.named_sessions.specs.Core.{core_of}
 
 -- the texts of the header have room
-pub record HasRoom (fields : HeaderFields) : Type 0 where
+pub record FitsHeader (fields : HeaderFields) : Type 0 where
   pub signature : length fields.signature ≡ 4
   pub oem_id : length fields.oem_id ≤ 6
   pub table_id : length fields.table_id ≤ 8
@@ -17,7 +17,7 @@ pub record HasRoom (fields : HeaderFields) : Type 0 where
 
 -- the terms are these, which are shaped and whose names are right, with their names spelled, shortest or not
 pub record IsCoreOf (shorten : Bool) (terms : Trees) (block : Block) : Type 0 where
-  pub room : HasRoom (fields_of block)
+  pub room : FitsHeader (fields_of block)
   pub shaped : AreShaped terms
   pub names : name_errors terms ≡ []
   pub counts : type_errors terms ≡ []

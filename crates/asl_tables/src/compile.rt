@@ -1,5 +1,5 @@
 //! An ASL source to its tables, or its errors.
-ghost use Rattle.std.specs.Prelude.{◌≡◌, ◌↔◌, ℕ, ◌<◌, ◌^◌, ◌++◌, ◌∷◌, [], length, All, Ok, IfOk, IfErr, IsTrue, true};
+ghost use Rattle.std.specs.Prelude.{◌≡◌, ◌↔◌, ℕ, ◌<◌, ◌^◌, ◌++◌, ◌∷◌, [], length, All, IfOk, IfErr, IsTrue};
 ghost use Rattle.acpi_values.specs.Revisions.{width_of};
 ghost use Rattle.asl_tree.specs.Tree.{Trees};
 ghost use Rattle.asl_tree.specs.View.{trees_of};
@@ -8,8 +8,8 @@ ghost use Rattle.asl_parser.specs.Parse.{outcome};
 ghost use Rattle.asl_shape.specs.Forms.{errors_at, alone, IsBlockOf, AreBlocksOf, AreRight};
 ghost use Rattle.asl_parser.specs.Written.{writtens};
 ghost use Rattle.asl_numbers.specs.Numbers.{nodes as node_count};
-ghost use Rattle.asl_formats.specs.Forms.{formed_all};
-ghost use Rattle.asl_formats.specs.Plans.{formed_plans};
+ghost use Rattle.asl_prints.specs.Forms.{formed_all};
+ghost use Rattle.asl_prints.specs.Plans.{formed_plans};
 ghost use Rattle.form_shapes.specs.Near.{AreNear};
 ghost use Rattle.hidden_locals.specs.Switches.{without_switches};
 ghost use Rattle.asl_shape.specs.Plans.{plans_of};
@@ -22,24 +22,26 @@ ghost use Rattle.asl_fold.specs.Folds.{folded_where};
 ghost use Rattle.wrapped_externals.specs.Wraps.{wrapped_where};
 ghost use Rattle.wrapped_externals.specs.Starts.{placed_where};
 ghost use Rattle.program_shapes.proofs.Kept.{HaveShortTexts};
-ghost use Rattle.aml_writer.specs.Pieces.{joined_pieces};
+ghost use Rattle.aml_sizes.specs.Pieces.{joined_pieces};
 ghost use Rattle.aml_writer.specs.Cuts.{IsCut};
-ghost use Rattle.aml_writer.specs.Written.{IsTable, RefusedFor};
+ghost use Rattle.aml_writer.specs.Written.{IsTable};
+ghost use Rattle.aml_sizes.specs.TableSizes.{RefusedFor};
 ghost use Rattle.asl_tables.specs.Syntax.{at_token};
-ghost use Rattle.asl_tables.specs.Ready.{HasRoom, IsCoreOf};
-ghost use Rattle.asl_tables.specs.Findings.{AreNamesOf, FindsFew, Finds, IsNamed, others_of};
+ghost use Rattle.asl_tables.specs.Ready.{FitsHeader, IsCoreOf};
+ghost use Rattle.switch_checks.specs.Locals as locals;
+ghost use Rattle.block_checks.specs.Findings.{AreNamesOf, IsNamed};
+ghost use Rattle.block_checks.specs.Present.{IsPresenceOf};
+ghost use Rattle.block_checks.specs.Told.{with_others};
 ghost use Rattle.block_outcomes.specs.declared.outcome.Compiled.TheVariants.{Refused};
-ghost use Rattle.asl_tables.specs.Compiled.{its_table, its_pieces, of_table, of_right, of_terms, is_of_kinds as of_kinds, unlowered as not_lowered, with_others};
+ghost use Rattle.asl_tables.specs.Compiled.{its_table, its_pieces, of_table, of_right, of_terms, unlowered as not_lowered};
 ghost use Rattle.asl_tables.specs.Compiled.{outcome_in, outcomes_in, noted_in, all_noted, of_items, of_lines, of_outcome, HasAsciiNames};
 ghost use Rattle.asl_tables.specs.Compiled.{TellsWithin};
-ghost use Rattle.block_outcomes.specs.Joined.{joined};
+ghost use Rattle.block_outcomes.specs.Joined.{first_told, joined};
 
-use crate::names::{Asked, Findings, NamedBlock, name_block};
 use acpi_values::width::Width;
-use aml_writer::stop::WriteStop;
+use aml_sizes::stop::WriteStop;
 use aml_writer::write::write_block;
 use asl_fold::fold::fold_where;
-use asl_formats::present::has_form;
 use asl_formats::program::forms;
 use asl_lexer::token::Tokens;
 use asl_lexer::tokens;
@@ -48,29 +50,24 @@ use asl_parser::{Raw, RawUnit, Raws, Syntax, parse, place_at};
 use asl_shape::shape;
 use asl_tree::program::{Block, Blocks};
 use asl_tree::term::Node;
+use block_checks::check::{CheckedBlock, check, first_class};
+use block_checks::names::Findings;
 use block_outcomes::messages::{both, one_message, refusal};
 use block_outcomes::outcome::{Compiled, Outcome, join, none_sorted, with_outcome};
-use field_checks::check::list_faults;
-use form_counts::copies::too_many_copies;
-use form_counts::plain::count_nodes;
-use iasl_messages::message::{Message, Messages, Stage};
-use iasl_messages::number::{
-    FIELD_NOT_WHOLE_BYTES, NESTING_TOO_DEEP, SYNTAX, UNKNOWN_OPERATOR, WRONG_CALL_ARGUMENT_COUNT,
-    WRONG_OBJECT_KIND, WRONG_TYPE,
-};
+use form_counts::copies::copies_where;
+use form_presence::present::Presence;
+use iasl_messages::message::{Message, Messages};
+use iasl_messages::number::{NESTING_TOO_DEEP, SYNTAX};
 use iasl_messages::place::{Line, Lines, Pieces, Place};
 use iasl_ports::list::{List, Text};
 use literal_checks::check::cut_literals;
 use name_checks::check::Names;
 use name_spelling::spell::spell;
 use source_lines::lines::SourceLines;
-use statement_checks::check::statement_errors;
 use std::alloc::{AllocError, Global};
 use std::mem::{drop, forget, replace};
 use switch_checks::locals::few_locals;
-use switch_checks::repeat::repeated_values;
 use switch_loops::loops::loops;
-use type_checks::size::long_lists;
 use wrapped_externals::wrap::wrap_where;
 
 /// The most tokens that are numbered.
@@ -130,43 +127,18 @@ fn write_core(
     }
 }
 
-// Whether an error of names is of the class of kinds.
-fn is_of_kinds(number: u16) -> bool
-    ensures { result ≡ of_kinds number }
-{
-    number == WRONG_CALL_ARGUMENT_COUNT
-        || number == WRONG_OBJECT_KIND
-        || number == WRONG_TYPE
-        || number == FIELD_NOT_WHOLE_BYTES
-        || number == UNKNOWN_OPERATOR
-}
-
-// The errors of statements, of the lists of fields and of their accesses behind those of kinds.
-fn with_others(errors: Messages, others: Messages) -> Result<Messages, AllocError>
-    ensures { IfOk result (λ all. all ≡ with_others errors others) }
-{
-    let number = match errors.get(0) {
-        Some(first) => first.number,
-        None => return Ok(others),
-    };
-    if is_of_kinds(number) {
-        both(errors, others)
-    } else {
-        Ok(errors)
-    }
-}
-
-// Terms with what stands for their Fors and for what prints; where none of these stands among them, the terms as they are.
-fn formed(alloc: Global, terms: Vec<Node>) -> Result<Vec<Node>, AllocError>
+// Terms with what stands for their Fors and for what prints; where none of these stands in them, the terms as they are.
+fn formed(alloc: Global, terms: Vec<Node>, present: Presence) -> Result<Vec<Node>, AllocError>
     requires numbers { node_count (plans_of terms.items) < 2 ^ 32 }
+    requires present { IsPresenceOf (plans_of terms.items) present }
     ensures trees { IfOk result (λ plain. trees_of plain.items ≡ formed_all (trees_of terms.items)) }
     ensures plans { IfOk result (λ plain. plans_of plain.items ≡ formed_plans (plans_of terms.items)) }
 {
-    if !has_form(&terms) {
+    if !present.forms {
         return Ok(terms);
     }
     // (the nodes have the numbers before this one)
-    let next = count_nodes(&terms) as u32;
+    let next = present.nodes as u32;
     let plain = forms(alloc, terms, next)?;
     Ok(plain)
 }
@@ -179,15 +151,17 @@ fn lowered_terms(
     fold: bool,
     width: Width,
     terms: Vec<Node>,
+    present: Presence,
 ) -> Result<Vec<Node>, AllocError>
     requires formed { AreFormed (Unit {0}) AreNamed (Unit {0}) (Unit {0}) (trees_of terms.items) }
     requires near { AreNear (trees_of terms.items) }
     requires numbers { node_count (plans_of terms.items) < 2 ^ 32 }
+    requires present { IsPresenceOf (plans_of terms.items) present }
     ensures terms { IfOk result
         (λ core. trees_of core.items ≡ folded_where fold width (named_all (without_switches (formed_all (trees_of terms.items))))) }
     ensures places { IfOk result (λ core. places_of core.items ≡ core_places (plans_of terms.items)) }
 {
-    let plain = formed(alloc, terms)?;
+    let plain = formed(alloc, terms, present)?;
     let turns = loops(alloc, plain)?;
     let named = lower(alloc, turns)?;
     fold_where(alloc, fold, width, named)
@@ -199,10 +173,12 @@ fn core_terms(
     style: Style,
     width: Width,
     terms: Vec<Node>,
+    present: Presence,
 ) -> Result<Vec<Node>, AllocError>
     requires formed { AreFormed (Unit {0}) AreNamed (Unit {0}) (Unit {0}) (trees_of terms.items) }
     requires near { AreNear (trees_of terms.items) }
     requires numbers { node_count (plans_of terms.items) < 2 ^ 32 }
+    requires present { IsPresenceOf (plans_of terms.items) present }
     ensures terms { IfOk result
         (λ core. trees_of core.items ≡ wrapped_where style.wrap
         (folded_where style.fold width (named_all (without_switches (formed_all (trees_of terms.items)))))) }
@@ -212,16 +188,22 @@ fn core_terms(
         (folded_where style.fold width (named_all (without_switches (formed_all (trees_of terms.items)))))
         (core_places (plans_of terms.items))) }
 {
-    let lowered = lowered_terms(alloc, style.fold, width, terms)?;
+    let lowered = lowered_terms(alloc, style.fold, width, terms, present)?;
     let core = wrap_where(alloc, style.wrap, lowered)?;
     Ok(core)
 }
 
 // The block with the terms of its core, whose names are not spelled yet.
-fn lowered(alloc: Global, style: Style, block: Block) -> Result<Block, AllocError>
+fn lowered(
+    alloc: Global,
+    style: Style,
+    block: Block,
+    present: Presence,
+) -> Result<Block, AllocError>
     requires formed { AreFormed (Unit {0}) AreNamed (Unit {0}) (Unit {0}) (trees_of block.terms.items) }
     requires near { AreNear (trees_of block.terms.items) }
     requires numbers { node_count (plans_of block.terms.items) < 2 ^ 32 }
+    requires present { IsPresenceOf (plans_of block.terms.items) present }
     ensures terms { IfOk result
         (λ core. trees_of core.terms.items ≡ wrapped_where style.wrap
         (folded_where style.fold (width_of block.revision) (named_all (without_switches (formed_all (trees_of block.terms.items)))))) }
@@ -237,30 +219,58 @@ fn lowered(alloc: Global, style: Style, block: Block) -> Result<Block, AllocErro
 {
     let mut core = block;
     let terms = replace(&mut core.terms, Vec::new(alloc));
-    core.terms = core_terms(alloc, style, Width::of_revision(core.revision), terms)?;
+    core.terms = core_terms(
+        alloc,
+        style,
+        Width::of_revision(core.revision),
+        terms,
+        present,
+    )?;
     Ok(core)
 }
 
+// The methods that leave too few Locals for their Switches, which are looked for where Switches stand.
+#[tactic(auto, using(switch_checks::proofs::Absent::none_few))]
+fn local_errors(alloc: Global, terms: &[Node], present: Presence) -> Result<Messages, AllocError>
+    requires { IsPresenceOf (plans_of terms.now) present }
+    ensures { IfOk result (λ ms. ms ≡ locals.few_locals (trees_of terms.now) (plans_of terms.now)) }
+{
+    if present.switches {
+        few_locals(alloc, terms)
+    } else {
+        Ok(Messages::new(alloc))
+    }
+}
+
 // What of terms of a block at this place cannot be lowered: Switches for which too few Locals are free, and then too many copies.
-fn unlowered(alloc: Global, block: Place, terms: &[Node]) -> Result<Messages, AllocError>
+fn unlowered(
+    alloc: Global,
+    block: Place,
+    terms: &[Node],
+    present: Presence,
+) -> Result<Messages, AllocError>
+    requires { IsPresenceOf (plans_of terms.now) present }
     ensures { IfOk result (λ ms. ms ≡ not_lowered block (trees_of terms.now) (plans_of terms.now)) }
 {
     both(
-        few_locals(alloc, terms)?,
-        too_many_copies(alloc, block, terms)?,
+        local_errors(alloc, terms, present)?,
+        copies_where(alloc, block, terms, present)?,
     )
 }
 
-// The names, or else what cannot be lowered.
+// The names of terms in which nothing is wrong, or else what of them cannot be lowered.
 fn right_or_few(
     alloc: Global,
     block: Place,
     terms: &[Node],
+    present: Presence,
     names: Names,
 ) -> Result<Findings, AllocError>
-    ensures { IfOk result (λ found. FindsFew found names (not_lowered block (trees_of terms.now) (plans_of terms.now))) }
+    requires names { AreNamesOf (trees_of terms.now) names }
+    requires present { IsPresenceOf (plans_of terms.now) present }
+    ensures { IfOk result (λ found. IsNamed found (not_lowered block (trees_of terms.now) (plans_of terms.now)) (trees_of terms.now)) }
 {
-    let few = unlowered(alloc, block, terms)?;
+    let few = unlowered(alloc, block, terms, present)?;
     if few.is_empty() {
         Ok(Findings::Right(names))
     } else {
@@ -268,68 +278,54 @@ fn right_or_few(
     }
 }
 
-// What is wrong with the names of terms, with their statements and the lists of their fields, or else what of them cannot be
-// lowered; and where nothing is, their names.
+// What is wrong with terms, of which the checks gave these names and errors, or else what of them cannot be lowered; and where nothing
+// is, their names.
 fn find(
     alloc: Global,
     block: Place,
     terms: &[Node],
+    present: Presence,
     names: Findings,
-    others: Messages,
+    errors: Messages,
 ) -> Result<Findings, AllocError>
     ghost told: { List Message }
-    requires { IsNamed names told (trees_of terms.now) }
-    ensures { IfOk result (λ found. Finds found told others (not_lowered block (trees_of terms.now) (plans_of terms.now)) (trees_of terms.now)) }
+    requires names { IsNamed names told (trees_of terms.now) }
+    requires present { IsPresenceOf (plans_of terms.now) present }
+    ensures { IfOk result (λ found. IsNamed found
+        (first_told (with_others told errors) (not_lowered block (trees_of terms.now) (plans_of terms.now))) (trees_of terms.now)) }
 {
-    match names {
-        Findings::Right(names) if others.is_empty() => right_or_few(alloc, block, terms, names),
-        Findings::Right(_) => Ok(Findings::Wrong(others)),
-        Findings::Wrong(told) => Ok(Findings::Wrong(with_others(told, others)?)),
+    match first_class(names, errors)? {
+        Findings::Right(names) => right_or_few(alloc, block, terms, present, names),
+        Findings::Wrong(errors) => Ok(Findings::Wrong(errors)),
     }
 }
 
-// The table of a block in which nothing is wrong, whose names are these: with what stands for its Fors and for what prints, loops for its
-// Switches, its symbols named and its names spelled.
+// The table of a block in which nothing is wrong, whose names are these: with what stands for its Fors and for what prints, loops
+// for its Switches, its symbols named and its names spelled.
 fn table_of(
     alloc: Global,
     style: Style,
     lines: &SourceLines<'_>,
     block: Block,
+    present: Presence,
     names: Names,
 ) -> Result<Outcome, AllocError>
-    requires room { HasRoom (fields_of block) }
+    requires room { FitsHeader (fields_of block) }
     requires formed { AreFormed (Unit {0}) AreNamed (Unit {0}) (Unit {0}) (trees_of block.terms.items) }
     requires near { AreNear (trees_of block.terms.items) }
     requires numbers { node_count (plans_of block.terms.items) < 2 ^ 32 }
+    requires present { IsPresenceOf (plans_of block.terms.items) present }
     requires shaped { AreShaped (named_all (without_switches (formed_all (trees_of block.terms.items)))) }
     requires names { AreNamesOf (trees_of block.terms.items) names }
     ensures { IfOk result (λ it. it ≡ of_right style lines.now block.place (core_places (plans_of block.terms.items)) block.file
         (fields_of block) (trees_of block.terms.items)) }
 {
-    let mut core = lowered(alloc, style, block)?;
+    let mut core = lowered(alloc, style, block, present)?;
     let Names { index, calls } = names;
     let terms = replace(&mut core.terms, Vec::new(alloc));
     let spelled = spell(alloc, index, calls.as_slice(), style.shorten, terms)?;
     core.terms = spelled;
     write_core(alloc, style, lines, core)
-}
-
-// What is wrong with statements, then with the lists of fields and their accesses, and then with the kinds of
-// arguments, the lengths of lists and the values of Cases.
-fn other_errors(
-    alloc: Global,
-    width: Width,
-    terms: &[Node],
-    regions: Messages,
-    types: Messages,
-) -> Result<Messages, AllocError>
-    ensures { IfOk result (λ ms. ms ≡ others_of width (plans_of terms.now) regions types) }
-{
-    let errors = both(statement_errors(alloc, terms)?, list_faults(alloc, terms)?)?;
-    let errors = both(errors, regions)?;
-    let errors = both(errors, types)?;
-    let errors = both(errors, long_lists(alloc, width, terms)?)?;
-    both(errors, repeated_values(alloc, width, terms)?)
 }
 
 // What a block comes to, and the notes on it.
@@ -339,43 +335,41 @@ struct Noted {
     notes: Messages,
 }
 
-// A block whose nodes have their numbers, of whose names this was asked: its table, or what is wrong with its names, its
-// statements and the lists of its fields, or else what of it cannot be lowered. With it stand the notes on the literals of its
-// source, which are found before, and on its names.
+// A block that was checked: its table, or what is wrong with it, or else what of it cannot be lowered. With it stand the notes on
+// the literals of its source, which are found before, and on its names.
 fn compile_noted(
     alloc: Global,
     style: Style,
     lines: &SourceLines<'_>,
     literals: Messages,
-    block: Block,
-    asked: Asked,
+    checked: CheckedBlock,
 ) -> Result<Noted, AllocError>
     ghost told: { List Message }
-    requires room { HasRoom (fields_of block) }
-    requires formed { AreFormed (Unit {0}) AreNamed (Unit {0}) (Unit {0}) (trees_of block.terms.items) }
-    requires names { IsNamed asked.names told (trees_of block.terms.items) }
-    requires near { others_of (width_of block.revision) (plans_of block.terms.items) asked.regions asked.types ≡ [] →
-        AreNear (trees_of block.terms.items) }
-    requires shaped { others_of (width_of block.revision) (plans_of block.terms.items) asked.regions asked.types ≡ [] →
-        AreShaped (named_all (without_switches (formed_all (trees_of block.terms.items)))) }
-    ensures notes { IfOk result (λ it. it.notes ≡ literals ++ asked.notes) }
-    ensures outcome { IfOk result (λ it. it.outcome ≡ of_terms style lines.now block.place (core_places (plans_of block.terms.items)) block.file
-        (fields_of block) told (others_of (width_of block.revision) (plans_of block.terms.items) asked.regions asked.types)
-        (not_lowered block.place (trees_of block.terms.items) (plans_of block.terms.items)) (trees_of block.terms.items)) }
+    requires room { FitsHeader (fields_of checked.block) }
+    requires formed { AreFormed (Unit {0}) AreNamed (Unit {0}) (Unit {0}) (trees_of checked.block.terms.items) }
+    requires names { IsNamed checked.names told (trees_of checked.block.terms.items) }
+    requires present { IsPresenceOf (plans_of checked.block.terms.items) checked.present }
+    requires near { checked.errors ≡ [] → AreNear (trees_of checked.block.terms.items) }
+    requires shaped { checked.errors ≡ [] → AreShaped (named_all (without_switches (formed_all (trees_of checked.block.terms.items)))) }
+    ensures notes { IfOk result (λ it. it.notes ≡ literals ++ checked.notes) }
+    ensures outcome { IfOk result (λ it. it.outcome ≡
+        of_terms style lines.now checked.block.place (core_places (plans_of checked.block.terms.items)) checked.block.file
+        (fields_of checked.block) told checked.errors
+        (not_lowered checked.block.place (trees_of checked.block.terms.items) (plans_of checked.block.terms.items))
+        (trees_of checked.block.terms.items)) }
 {
-    let Asked {
+    let CheckedBlock {
+        block,
         names,
-        regions,
-        types,
+        errors,
         notes,
-    } = asked;
+        present,
+    } = checked;
     let terms = block.terms.as_slice();
-    let width = Width::of_revision(block.revision);
-    let others = other_errors(alloc, width, terms, regions, types)?;
     let notes = both(literals, notes)?;
-    match find(alloc, block.place, terms, names, others)? {
+    match find(alloc, block.place, terms, present, names, errors)? {
         Findings::Right(names) => {
-            let outcome = table_of(alloc, style, lines, block, names)?;
+            let outcome = table_of(alloc, style, lines, block, present, names)?;
             Ok(Noted { outcome, notes })
         }
         Findings::Wrong(errors) => Ok(Noted {
@@ -385,7 +379,7 @@ fn compile_noted(
     }
 }
 
-// An item that is a block, read alone.
+// An item that is a block, read alone. What was read of it is let go before the block is checked.
 fn compile_item(
     alloc: Global,
     style: Style,
@@ -399,10 +393,10 @@ fn compile_item(
     ensures outcome { IfOk result (λ it. it.outcome ≡ outcome_in style lines.now (alone raw)) }
     ensures notes { IfOk result (λ it. it.notes ≡ noted_in (alone raw)) }
 {
-    let NamedBlock { block, asked } = name_block(alloc, block)?;
     let literals = cut_literals(alloc, Width::of_revision(block.revision), &raw)?;
     drop(raw);
-    compile_noted(alloc, style, lines, literals, block, asked)
+    let checked = check(alloc, block)?;
+    compile_noted(alloc, style, lines, literals, checked)
 }
 
 // Items that are these blocks, each read alone. What was read of an item is let go with it.
@@ -519,8 +513,8 @@ fn are_numbered(count: usize) -> bool
     count <= MOST_TOKENS
 }
 
-/// What lines of ASL come to: a table in pieces for each block (ACPI Specification 6.4, 19.6 and 20.2), or errors, of which there is at
-/// least one: those of one class, of all blocks. Each refusal stands in one of their files.
+/// What lines of ASL come to: a table in pieces for each block (ACPI Specification 6.4, 19.6 and 20.2), or errors, of which there is
+/// at least one: those of one class, of all blocks. Each refusal stands in one of their files.
 #[tactic(auto, using(crate::proofs::Outcomes::fault_is))]
 pub fn compile(alloc: Global, style: Style, lines: &Lines) -> Result<Compiled, AllocError>
     requires short { All (λ line. length line.text < 2 ^ 32) lines.now.list }

@@ -14,6 +14,7 @@ use Rattle.asl_words.specs.declared.words.TheConstants.{WORDS}
 use Rattle.asl_words.specs.declared.operator.Operator.{Operator}
 use Rattle.asl_words.specs.declared.operator.Named.{Named}
 use Rattle.asl_words.specs.Operators.{operators, words, row_in, named_in, is_filled, place_of}
+use Rattle.asl_words.specs.Begun.{is_blank_first, is_begun, row_begun, named_begun}
 
 -- ---- the tables
 
@@ -84,13 +85,74 @@ module _ (last : ℕ) where
   short (b ∷ bytes) (f ∷ front) le = ap (λ c. nat_eq b f && c) (short bytes front (omega (arith, le))) ∙ and-false (nat_eq b f)
 
   -- bytes with another one in the place of a word's last byte, or with none, are no such word
-  pub last_differs : (bytes word front : List ℕ) (byte : ℕ) → word ≡ front ++ last ∷ [] → length front < length bytes → byte ≡ get_or bytes (length front) byte → nat_eq byte last ≡ false → is_filled bytes word ≡ false
-  last_differs bytes word front byte w lt g e = ap (is_filled bytes) w ∙ ap (λ c. c && list_all (λ b. b == 32) (drop (length (front ++ last ∷ [])) bytes)) (differs bytes front byte lt g e)
+  pub last_differs : (bytes word front : List ℕ) (byte : ℕ) → word ≡ front ++ last ∷ [] → length front < length bytes → byte ≡ get_or bytes (length front) byte → nat_eq byte last ≡ false → is_begun bytes word ≡ false
+  last_differs bytes word front byte w lt g e = ap (is_begun bytes) w ∙ ap (λ c. c && is_blank_first (drop (length (front ++ last ∷ [])) bytes)) (differs bytes front byte lt g e)
 
-  pub last_missing : (bytes word front : List ℕ) → word ≡ front ++ last ∷ [] → length bytes ≤ length front → is_filled bytes word ≡ false
-  last_missing bytes word front w le = ap (is_filled bytes) w ∙ ap (λ c. c && list_all (λ b. b == 32) (drop (length (front ++ last ∷ [])) bytes)) (short bytes front le)
+  pub last_missing : (bytes word front : List ℕ) → word ≡ front ++ last ∷ [] → length bytes ≤ length front → is_begun bytes word ≡ false
+  last_missing bytes word front w le = ap (is_begun bytes) w ∙ ap (λ c. c && is_blank_first (drop (length (front ++ last ∷ [])) bytes)) (short bytes front le)
 
 pub ruleset last_rules = (last_differs, last_missing)
+
+-- ---- blanks behind a blank
+
+-- behind the first blank stand blanks alone
+abbrev is_padded : List ℕ → Bool
+is_padded [] = true
+is_padded (b ∷ bytes) = if nat_eq b 32 then list_all (λ b. b == 32) bytes else is_padded bytes
+
+blanks_padded : (bytes : List ℕ) → list_all (λ b. b == 32) bytes ≡ true → is_padded bytes ≡ true
+blanks_padded [] e = refl
+blanks_padded (b ∷ bytes) e =
+    let p = both (nat_eq b 32) (list_all (λ b. b == 32) bytes) e in
+    ap (λ c. if c then list_all (λ b. b == 32) bytes else is_padded bytes) p.0 ∙ p.1
+
+padded_rest : (b : ℕ) (bytes : List ℕ) → is_padded (b ∷ bytes) ≡ true → is_padded bytes ≡ true
+padded_rest b bytes e = by_first (nat_eq b 32) e
+  where
+    by_first : (c : Bool) → (if c then list_all (λ b. b == 32) bytes else is_padded bytes) ≡ true → is_padded bytes ≡ true
+    by_first true e = blanks_padded bytes e
+    by_first false e = e
+
+padded_behind : (n : ℕ) (bytes : List ℕ) → is_padded bytes ≡ true → is_padded (drop n bytes) ≡ true
+padded_behind zero [] e = refl
+padded_behind (suc n) [] e = refl
+padded_behind zero (b ∷ bytes) e = e
+padded_behind (suc n) (b ∷ bytes) e = padded_behind n bytes (padded_rest b bytes e)
+
+first_decides : (bytes : List ℕ) → is_padded bytes ≡ true → is_blank_first bytes ≡ list_all (λ b. b == 32) bytes
+first_decides [] e = refl
+first_decides (b ∷ bytes) e = by_first (nat_eq b 32) e
+  where
+    by_first : (c : Bool) → (if c then list_all (λ b. b == 32) bytes else is_padded bytes) ≡ true → c ≡ (c && list_all (λ b. b == 32) bytes)
+    by_first true e = sym e
+    by_first false e = refl
+
+begun_is_filled : (bytes word : List ℕ) → is_padded bytes ≡ true → is_begun bytes word ≡ is_filled bytes word
+begun_is_filled bytes word e = ap (λ c. pointwise nat_eq (take (length word) bytes) word && c) (first_decides (drop (length word) bytes) (padded_behind (length word) bytes e))
+
+module _ {X : Type 0} (text : X → List ℕ) where
+  abbrev are_padded : List X → Bool
+  are_padded rows = list_all (λ row. is_padded (text row)) rows
+
+  begun_is_found : (word : List ℕ) (rows : List X) → are_padded rows ≡ true → find (λ row. is_begun (text row) word) rows ≡ find (λ row. is_filled (text row) word) rows
+  begun_is_found word [] h = refl
+  begun_is_found word (row ∷ rows) h =
+      let p = both (is_padded (text row)) (are_padded rows) h in
+      ap (λ c. cond c (Some row) (find (λ row. is_begun (text row) word) rows)) (begun_is_filled (text row) word p.0)
+      ∙ ap (cond (is_filled (text row) word) (Some row)) (begun_is_found word rows p.1)
+
+  padded_at : (letters : List (List X)) (place : ℕ) → list_all are_padded letters ≡ true → are_padded (get_or letters place []) ≡ true
+  padded_at [] place h = refl
+  padded_at (rows ∷ letters) zero h = (both (are_padded rows) (list_all are_padded letters) h).0
+  padded_at (rows ∷ letters) (suc place) h = padded_at letters place (both (are_padded rows) (list_all are_padded letters) h).1
+
+operators_padded : list_all (are_padded (λ row. row.word)) operator_letters ≡ true
+unfolding operator_letters
+operators_padded = refl
+
+words_padded : list_all (are_padded (λ row. row.text)) word_letters ≡ true
+unfolding word_letters
+words_padded = refl
 
 -- no row of this letter is the word
 abbrev Unlike : List ℕ → ℕ → Type 0
@@ -163,20 +225,24 @@ module _ {X : Type 0} (text : X → List ℕ) (letters : List (List X)) (ordered
       too_early true h g n f from = absurd (cc)
       too_early false h g n f from = let lt : b < 65 = leb-false 65 b h in omega (arith, f, from, lt)
 
-pub operator_at : (word : List ℕ) (place : ℕ) → place_of word ≡ Some place → row_in (get_or operator_letters place []) word ≡ row_in operators word
-unfolding row_in
-operator_at word place e = by_place (λ row. row.word) operator_letters operators_by_letters word place e ∙ ap (λ rows. row_in rows word) operators_are
+pub operator_at : (word : List ℕ) (place : ℕ) → place_of word ≡ Some place → row_begun (get_or operator_letters place []) word ≡ row_in operators word
+unfolding row_in row_begun
+operator_at word place e =
+    begun_is_found (λ row. row.word) word (get_or operator_letters place []) (padded_at (λ row. row.word) operator_letters place operators_padded)
+    ∙ by_place (λ row. row.word) operator_letters operators_by_letters word place e ∙ ap (λ rows. row_in rows word) operators_are
 
-pub operator_nowhere : (word : List ℕ) → place_of word ≡ None → row_in [] word ≡ row_in operators word
-unfolding row_in
+pub operator_nowhere : (word : List ℕ) → place_of word ≡ None → row_begun [] word ≡ row_in operators word
+unfolding row_in row_begun
 operator_nowhere word e = nowhere (λ row. row.word) operator_letters operators_by_letters word e ∙ ap (λ rows. row_in rows word) operators_are
 
-pub word_at : (text : List ℕ) (place : ℕ) → place_of text ≡ Some place → named_in (get_or word_letters place []) text ≡ named_in words text
-unfolding named_in
-word_at text place e = by_place (λ row. row.text) word_letters words_by_letters text place e ∙ ap (λ rows. named_in rows text) words_are
+pub word_at : (text : List ℕ) (place : ℕ) → place_of text ≡ Some place → named_begun (get_or word_letters place []) text ≡ named_in words text
+unfolding named_in named_begun
+word_at text place e =
+    begun_is_found (λ row. row.text) text (get_or word_letters place []) (padded_at (λ row. row.text) word_letters place words_padded)
+    ∙ by_place (λ row. row.text) word_letters words_by_letters text place e ∙ ap (λ rows. named_in rows text) words_are
 
-pub word_nowhere : (text : List ℕ) → place_of text ≡ None → named_in [] text ≡ named_in words text
-unfolding named_in
+pub word_nowhere : (text : List ℕ) → place_of text ≡ None → named_begun [] text ≡ named_in words text
+unfolding named_in named_begun
 word_nowhere text e = nowhere (λ row. row.text) word_letters words_by_letters text e ∙ ap (λ rows. named_in rows text) words_are
 
 -- ---- lists that are lent

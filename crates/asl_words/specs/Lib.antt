@@ -1,3 +1,4 @@
+pub mod Begun
 pub mod Operators
 pub mod Paths
 pub mod Texts

@@ -1,7 +1,7 @@
 //! The operators and words of the language (ACPI Specification 6.4, 19.6).
-ghost use Rattle.std.specs.Prelude.{◌≡◌, ◌==◌, map, false};
-ghost use Rattle.std.specs.List.{list_all};
+ghost use Rattle.std.specs.Prelude.{◌≡◌, map, false};
 ghost use Rattle.std.specs.Option.{option_copied};
+ghost use Rattle.asl_words.specs.Begun as begun;
 ghost use Rattle.asl_words.specs.Operators as spec;
 
 use crate::operator::{Known, Named, Operator};
@@ -202,17 +202,21 @@ pub const OPERATORS: &[&[Operator]] = &[
     &[literal!(b"ZERO                        ", Zero)],
 ];
 
-fn are_blank(bytes: &[u8]) -> bool
-    ensures { result ≡ list_all (λ b. b == 32) bytes.now }
+// Whether nothing stands here, or a blank first.
+fn is_blank_first(bytes: &[u8]) -> bool
+    ensures { result ≡ begun.is_blank_first bytes.now }
 {
-    bytes.iter().all(|byte| *byte == b' ')
+    match parts(bytes) {
+        Some((first, _)) => *first == b' ',
+        None => true,
+    }
 }
 
 // Whether the last byte of a word stands at its place there. In most other rows of the same letter it does not.
 #[inline(always)]
 #[tactic(auto, using(crate::proofs::Tables::last_rules))]
 fn ends_alike(bytes: &[u8], word: &[u8]) -> bool
-    ensures { result ≡ false → spec.is_filled bytes.now word.now ≡ false }
+    ensures { result ≡ false → begun.is_begun bytes.now word.now ≡ false }
 {
     match word.split_last() {
         Some((last, front)) => match bytes.get(front.len()) {
@@ -223,21 +227,21 @@ fn ends_alike(bytes: &[u8], word: &[u8]) -> bool
     }
 }
 
-// Whether these bytes begin with the word, and all behind it are blanks.
+// Whether these bytes begin with the word, and a blank or nothing stands behind it.
 fn is_word(bytes: &[u8], word: &[u8]) -> bool
-    ensures { result ≡ spec.is_filled bytes.now word.now }
+    ensures { result ≡ begun.is_begun bytes.now word.now }
 {
     match bytes.strip_prefix(word) {
-        Some(rest) => are_blank(rest),
+        Some(rest) => is_blank_first(rest),
         None => false,
     }
 }
 
-// Whether these bytes are the word with blanks behind it. It stands in the loops over the rows, which ask most rows for
-// one byte alone.
+// Whether these bytes, of a row, are the word with blanks behind it. It stands in the loops over the rows, which ask most
+// rows for one byte alone.
 #[inline(always)]
-fn is_filled(bytes: &[u8], word: &[u8]) -> bool
-    ensures { result ≡ spec.is_filled bytes.now word.now }
+fn is_begun(bytes: &[u8], word: &[u8]) -> bool
+    ensures { result ≡ begun.is_begun bytes.now word.now }
 {
     ends_alike(bytes, word) && is_word(bytes, word)
 }
@@ -271,7 +275,7 @@ fn word_letters() -> &'static [&'static [Named]]
 // The rows of a word's letter: what is not among them is no operator.
 #[tactic(auto, using(crate::proofs::Tables::operator_nowhere))]
 fn operators_by(word: &[u8]) -> &'static [Operator]
-    ensures { spec.row_in result.now word.now ≡ spec.row_in spec.operators word.now }
+    ensures { begun.row_begun result.now word.now ≡ spec.row_in spec.operators word.now }
 {
     let Some(place) = place_of(word) else {
         return &[];
@@ -285,7 +289,7 @@ fn operators_by(word: &[u8]) -> &'static [Operator]
 // The rows of a word's letter: what is not among them stands for nothing.
 #[tactic(auto, using(crate::proofs::Tables::word_nowhere))]
 fn words_by(text: &[u8]) -> &'static [Named]
-    ensures { spec.named_in result.now text.now ≡ spec.named_in spec.words text.now }
+    ensures { begun.named_begun result.now text.now ≡ spec.named_in spec.words text.now }
 {
     let Some(place) = place_of(text) else {
         return &[];
@@ -296,18 +300,18 @@ fn words_by(text: &[u8]) -> &'static [Named]
     }
 }
 
-#[tactic(auto, unfolding(crate::specs::Operators::row_in))]
+#[tactic(auto, unfolding(crate::specs::Begun::row_begun))]
 fn row_in(rows: &'static [Operator], word: &[u8]) -> Option<&'static Operator>
-    ensures { option_copied result ≡ spec.row_in rows.now word.now }
+    ensures { option_copied result ≡ begun.row_begun rows.now word.now }
 {
-    rows.iter().find(|row| is_filled(&row.word, word))
+    rows.iter().find(|row| is_begun(&row.word, word))
 }
 
-#[tactic(auto, unfolding(crate::specs::Operators::named_in))]
+#[tactic(auto, unfolding(crate::specs::Begun::named_begun))]
 fn named_in(rows: &'static [Named], text: &[u8]) -> Option<&'static Named>
-    ensures { option_copied result ≡ spec.named_in rows.now text.now }
+    ensures { option_copied result ≡ begun.named_begun rows.now text.now }
 {
-    rows.iter().find(|row| is_filled(&row.text, text))
+    rows.iter().find(|row| is_begun(&row.text, text))
 }
 
 /// The operator of this word.

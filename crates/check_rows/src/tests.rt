@@ -1,4 +1,4 @@
-mod of_descriptor_names;
+mod of_descriptor_checks;
 mod of_field_checks;
 mod of_form_counts;
 mod of_statement_checks;

@@ -97,7 +97,8 @@ pub fn compile_generic(alloc: Global, lines: &Lines) -> Result<Compiled, Stage>
     ensures exact { Answers result (compiled_generic lines.now.list) }
 
     // The bytes, read by the types and sizes of what the text writes, are the values that it writes.
-    ensures reads { IfOk result (λ table. ReadsGeneric (joined table.pieces) (written_header lines.now.list) (written_data lines.now.list)) }
+    ensures reads { IfOk result
+        (λ table. ReadsGeneric (joined table.pieces) (written_header lines.now.list) (written_data lines.now.list)) }
 
     // And by these they read as no others.
     ensures only { IfOk result (λ table. (header : AList Entry) → (entries : AList DataEntry) →

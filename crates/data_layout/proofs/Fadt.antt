@@ -14,3 +14,5 @@ fadt_268 = refl
 
 pub fadt_276 : first_bytes 240 FACP.now ≡ FACP.now
 fadt_276 = refl
+
+pub ruleset fadt_rules = (fadt_116, fadt_244, fadt_268, fadt_276)

@@ -53,7 +53,7 @@ pub fn fadt_bytes(revision: u64) -> Option<u64>
 }
 
 // How many fields such a FADT has behind its header.
-#[tactic(auto, unfolding(crate::specs::Layout::fadt_rows), using(crate::proofs::Fadt::fadt_116, crate::proofs::Fadt::fadt_244, crate::proofs::Fadt::fadt_268, crate::proofs::Fadt::fadt_276))]
+#[tactic(auto, unfolding(crate::specs::Layout::fadt_rows), using(crate::proofs::Fadt::fadt_rules))]
 fn fadt_rows(revision: u64) -> &'static [Row]
     ensures { result.now ≡ spec.fadt_rows revision }
 {
@@ -136,7 +136,8 @@ fn srat_rows(structure: u64) -> Option<&'static [Row]>
 
 /// The fields of a structure behind its type; none where the table has no structures of this type.
 pub fn structure_rows(table: Table, structure: u64) -> Option<&'static [Row]>
-    ensures { MatchOption result (spec.structure_rows table structure ≡ None) (λ rows. spec.structure_rows table structure ≡ Some rows.now) }
+    ensures { MatchOption result (spec.structure_rows table structure ≡ None)
+        (λ rows. spec.structure_rows table structure ≡ Some rows.now) }
 {
     match table {
         Table::Apic => madt_rows(structure),

@@ -1,4 +1,7 @@
-//! Tests alone: dumps and data tables.
+//! Rows: a row is a source or a call and the exact value expected for it, taken from outside: the ACPI Specification,
+//! ACPICA's compiler, or worked by hand, never from this compiler's own output.
+//!
+//! Here, in tests alone: dumps and data tables.
 #![tactic(auto)]
 
 #[cfg(test)]

@@ -36,7 +36,8 @@ closed_by : (table : Table) (bytes before tail : List ℕ) (after : Tail) (numbe
 closed_by table bytes before tail after number all others entries e f g r =
     subst (λ (es : List Entry). Reads table bytes [] after number (length before) es) (sym (f ∙ g)) (closed table bytes before tail after number entries e r)
 
-at_entry : (table : Table) (revision number : ℕ) (bytes before : List ℕ) (field : Field) (fields : List Field) → bytes ≡ before ++ joined (map piece_of (field ∷ fields)) → FieldsOf (part table revision [] a.Entries) (field ∷ fields) → ((rows : List Row) (before' : List ℕ) → are_plain rows ≡ true → bytes ≡ before' ++ joined (map piece_of fields) → IsReadFrom table revision bytes a.Entries rows (number + 1) before' fields) → Reads table bytes [] Entries number (length before) (entries_from number (field ∷ fields))
+at_entry : (table : Table) (revision number : ℕ) (bytes before : List ℕ) (field : Field) (fields : List Field) → bytes ≡ before ++ joined (map piece_of (field ∷ fields)) → FieldsOf (part table revision [] a.Entries) (field ∷ fields)
+    → ((rows : List Row) (before' : List ℕ) → are_plain rows ≡ true → bytes ≡ before' ++ joined (map piece_of fields) → IsReadFrom table revision bytes a.Entries rows (number + 1) before' fields) → Reads table bytes [] Entries number (length before) (entries_from number (field ∷ fields))
 at_entry table revision number bytes before field fields e h ih =
     let row = entries_plain.first in
     let rows = entries_plain.others in
@@ -80,7 +81,8 @@ stated_size : (bytes : List ℕ) (offset : ℕ) (rows : List Row) → states_siz
 stated_size bytes offset [] e h = absurd cc
 stated_size bytes offset (row ∷ rows) e h = stated_at bytes offset (1 + (row.width + size_of rows)) row.width row.kind e h.0
 
-at_structure : (table : Table) (revision number : ℕ) (bytes before : List ℕ) (field : Field) (fields : List Field) → bytes ≡ before ++ joined (map piece_of (field ∷ fields)) → FieldsOf (part table revision [] a.Structures) (field ∷ fields) → ((rows : List Row) (before' : List ℕ) → are_plain rows ≡ true → bytes ≡ before' ++ joined (map piece_of fields) → IsReadFrom table revision bytes a.Structures rows (number + 1) before' fields) → Reads table bytes [] Structures number (length before) (entries_from number (field ∷ fields))
+at_structure : (table : Table) (revision number : ℕ) (bytes before : List ℕ) (field : Field) (fields : List Field) → bytes ≡ before ++ joined (map piece_of (field ∷ fields)) → FieldsOf (part table revision [] a.Structures) (field ∷ fields)
+    → ((rows : List Row) (before' : List ℕ) → are_plain rows ≡ true → bytes ≡ before' ++ joined (map piece_of fields) → IsReadFrom table revision bytes a.Structures rows (number + 1) before' fields) → Reads table bytes [] Structures number (length before) (entries_from number (field ∷ fields))
 at_structure table revision number bytes before field fields e h ih =
     let row = type_one.first in
     let here = field_bytes row field.value in
@@ -103,9 +105,11 @@ at_structure table revision number bytes before field fields e h ih =
     let known : structure_rows table (number_read bytes (length before) 1) ≡ Some t.rows = ap (structure_rows table) number_is ∙ t.known in
     let size : size_of (type_rows ++ t.rows) ≡ 1 + size_of t.rows = ap (λ (rs : List Row). size_of (rs ++ t.rows)) type_one.are ∙ ap (λ (m : ℕ). m + size_of t.rows) type_one.width_is in
     let stated : number_read bytes (length before + 1) 1 ≡ size_of (type_rows ++ t.rows) = ap (λ (o : ℕ). number_read bytes o 1) (sym next) ∙ stated_size bytes (length (before ++ here)) t.rows parts.1 r.stand ∙ sym size in
-    closed_by table bytes before (here ++ tail) Structures number (entries_from number (field ∷ fields)) (entry_of (number + 1) row field.value ++ entries_from (number + 1) fields) (rows_read (number + 1) bytes (length before) (type_rows ++ t.rows) ++ r2.more) whole (entries_first number row field fields true f.row_is f.begins_is) r2.values (structure number (length before) t.rows r2.more known stated r2.stand r2.rest)
+    closed_by table bytes before (here ++ tail) Structures number (entries_from number (field ∷ fields)) (entry_of (number + 1) row field.value ++ entries_from (number + 1) fields) (rows_read (number + 1) bytes (length before) (type_rows ++ t.rows) ++ r2.more) whole
+    (entries_first number row field fields true f.row_is f.begins_is) r2.values (structure number (length before) t.rows r2.more known stated r2.stand r2.rest)
 
-at_locality : (table : Table) (revision number count place : ℕ) (bytes before : List ℕ) (field : Field) (fields : List Field) → bytes ≡ before ++ joined (map piece_of (field ∷ fields)) → nat_lt place count ≡ true → FieldsOf (part table revision [] (a.Matrix count place)) (field ∷ fields) → ((before' : List ℕ) → bytes ≡ before' ++ joined (map piece_of fields) → IsReadFrom table revision bytes (a.Matrix count (place + 1)) [] (number + 1) before' fields) → Reads table bytes [] (Localities count place) number (length before) (entries_from number (field ∷ fields))
+at_locality : (table : Table) (revision number count place : ℕ) (bytes before : List ℕ) (field : Field) (fields : List Field) → bytes ≡ before ++ joined (map piece_of (field ∷ fields)) → nat_lt place count ≡ true → FieldsOf (part table revision [] (a.Matrix count place)) (field ∷ fields)
+    → ((before' : List ℕ) → bytes ≡ before' ++ joined (map piece_of fields) → IsReadFrom table revision bytes (a.Matrix count (place + 1)) [] (number + 1) before' fields) → Reads table bytes [] (Localities count place) number (length before) (entries_from number (field ∷ fields))
 at_locality table revision number count place bytes before field fields e more h ih =
     let row = locality_row count place in
     let after = a.Matrix count (place + 1) in
@@ -120,7 +124,8 @@ at_locality table revision number count place bytes before field fields e more h
     let r = ih (before ++ here) (shifted bytes before here tail whole) f.tail in
     let r1 = rows_step table bytes before here tail row [] more_rows (number + 1) field.value (entries_from (number + 1) fields) s whole r in
     let end : length before + (count + 0) ≡ length before + count = omega arith in
-    closed_by table bytes before (here ++ tail) (Localities count place) number (entries_from number (field ∷ fields)) (entry_of (number + 1) row field.value ++ entries_from (number + 1) fields) (rows_read (number + 1) bytes (length before) (row ∷ []) ++ r1.more) whole (entries_first number row field fields true f.row_is f.begins_is) r1.values (locality number (length before) count place r1.more lt r1.stand (subst (λ (o : ℕ). IsRest table bytes more_rows (number + 1) o r1.more) end r1.rest))
+    closed_by table bytes before (here ++ tail) (Localities count place) number (entries_from number (field ∷ fields)) (entry_of (number + 1) row field.value ++ entries_from (number + 1) fields) (rows_read (number + 1) bytes (length before) (row ∷ []) ++ r1.more) whole (entries_first number row field fields true f.row_is f.begins_is) r1.values
+    (locality number (length before) count place r1.more lt r1.stand (subst (λ (o : ℕ). IsRest table bytes more_rows (number + 1) o r1.more) end r1.rest))
 
 -- behind the header and the fixed part
 abbrev pub IsLater : After → Type 0

@@ -82,7 +82,8 @@ unfolding header_rows
 header_is = refl
 
 -- one field of the header before those that are read
-pub header_step : (table : Table) (revision : ℕ) (row : Row) (rows rs : List Row) (after : After) (fields : List Field) (bytes before here tail : List ℕ) (later : Tail) (t : IsTaken table revision row rows after fields) → IsSpelled bytes row t.field.value here → bytes ≡ before ++ (here ++ tail) → Reads table bytes rs later 0 (length (before ++ here)) (entries_from 0 t.rest) → Reads table bytes (row ∷ rs) later 0 (length before) (entries_from 0 fields)
+pub header_step : (table : Table) (revision : ℕ) (row : Row) (rows rs : List Row) (after : After) (fields : List Field) (bytes before here tail : List ℕ) (later : Tail) (t : IsTaken table revision row rows after fields) → IsSpelled bytes row t.field.value here → bytes ≡ before ++ (here ++ tail)
+    → Reads table bytes rs later 0 (length (before ++ here)) (entries_from 0 t.rest) → Reads table bytes (row ∷ rs) later 0 (length before) (entries_from 0 fields)
 header_step table revision row rows rs after fields bytes before here tail later t s e r =
     let all = ap (entries_from 0) t.are ∙ entries_first 0 row t.field t.rest false t.first.row_is t.first.begins_is in
     subst (λ (es : List Entry). Reads table bytes (row ∷ rs) later 0 (length before) es) (sym all)

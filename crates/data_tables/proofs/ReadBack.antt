@@ -232,7 +232,8 @@ at_end table revision number bytes before after m e =
     }
 
 -- the next row of a part
-pub at_row : (table : Table) (revision number : ℕ) (bytes before : List ℕ) (after : After) (row : Row) (rows : List Row) (field : Field) (fields : List Field) → are_plain (row ∷ rows) ≡ true → bytes ≡ before ++ joined (map piece_of (field ∷ fields)) → FieldsOf (part table revision (row ∷ rows) after) (field ∷ fields) → ((bytes ≡ (before ++ field_bytes row field.value) ++ joined (map piece_of fields)) → IsReadFrom table revision bytes after rows number (before ++ field_bytes row field.value) fields) → Reads table bytes (row ∷ rows) (tail_of after) number (length before) (entries_from number (field ∷ fields))
+pub at_row : (table : Table) (revision number : ℕ) (bytes before : List ℕ) (after : After) (row : Row) (rows : List Row) (field : Field) (fields : List Field) → are_plain (row ∷ rows) ≡ true → bytes ≡ before ++ joined (map piece_of (field ∷ fields)) → FieldsOf (part table revision (row ∷ rows) after) (field ∷ fields)
+    → ((bytes ≡ (before ++ field_bytes row field.value) ++ joined (map piece_of fields)) → IsReadFrom table revision bytes after rows number (before ++ field_bytes row field.value) fields) → Reads table bytes (row ∷ rows) (tail_of after) number (length before) (entries_from number (field ∷ fields))
 at_row table revision number bytes before after row rows field fields p e h ih =
     let plain = plain_first row rows p in
     let f = first_is (part table revision (row ∷ rows) after) (part table revision rows after) row field fields refl h in

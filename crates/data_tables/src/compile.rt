@@ -49,7 +49,8 @@ fn signature_in(line: &FieldLine) -> Option<&[u8]>
 
 // The table of what was made of a text without faults.
 fn sealed_table(alloc: Global, signature: &[u8], walker: Walker) -> Result<Compiled, AllocError>
-    ensures table { IfOk result (λ table. table ≡ record { pieces = sealed walker.pieces; signature = signature.now; notes = walker.notes }) }
+    ensures table { IfOk result
+        (λ table. table ≡ record { pieces = sealed walker.pieces; signature = signature.now; notes = walker.notes }) }
     ensures within { OnOk result (length (joined walker.pieces) < 2 ^ 32) }
 {
     let signature = Text::from_bytes(alloc, signature)?;
@@ -69,7 +70,8 @@ fn compile_table(
     table: Table,
 ) -> Result<Compiled, Stage>
     ensures exact { Answers result (answer_of signature.now (walk text.now.end (first_part table) None text.now.lines)) }
-    ensures within { OnOk result (length (joined (map piece_of (walk text.now.end (first_part table) None text.now.lines).fields)) < 2 ^ 32) }
+    ensures within { OnOk result
+        (length (joined (map piece_of (walk text.now.end (first_part table) None text.now.lines).fields)) < 2 ^ 32) }
 {
     let walker = match walk_lines(alloc, table, text.lines.as_slice(), text.end) {
         Ok(walker) => walker,
@@ -147,7 +149,8 @@ pub fn compile_data(alloc: Global, lines: &Lines) -> Result<Compiled, Stage>
     // The bytes, read by offset, are the values that the text writes, and no others.
     ensures reads { IfOk result (λ table. ReadsAs (joined table.pieces) (written_values lines.now.list)) }
 
-    ensures only { IfOk result (λ table. (values : AList Entry) → ReadsAs (joined table.pieces) values → values ≡ written_values lines.now.list) }
+    ensures only { IfOk result
+        (λ table. (values : AList Entry) → ReadsAs (joined table.pieces) values → values ≡ written_values lines.now.list) }
 
     ensures within { OnOk result (length (unsealed_bytes lines.now.list) < 2 ^ 32) }
 

@@ -38,7 +38,8 @@ impl Walker {
     ghost use Rattle.data_tables.specs.Compiling.{piece_at};
 
     fn new(alloc: Global, table: Table) -> Self
-        ensures { (end : Place) (lines : AList FieldLine) → told_with result end lines ≡ outcome_of (walk end (first_part table) None lines) }
+        ensures { (end : Place) (lines : AList FieldLine)
+            → told_with result end lines ≡ outcome_of (walk end (first_part table) None lines) }
     {
         Walker {
             alloc,

@@ -15,6 +15,7 @@ pub ended_at : (pair : Pair) (value bytes : List ℕ) (i : ℕ) → i < length v
 ended_at pair value bytes i h none inv =
     ap (option_map (λ more. bytes ++ more)) (sym (at_drop_more (bytes_at pair) value i 0 h ∙ none (drop (i + 1) value))) ∙ inv
 
-pub goes_on : (pair next : Pair) (value bytes after : List ℕ) (i : ℕ) → i < length value → ((rest : List ℕ) → option_map (λ more. bytes ++ more) (bytes_at pair (get_or value i 0 ∷ rest)) ≡ option_map (λ more. after ++ more) (bytes_at next rest)) → option_map (λ more. bytes ++ more) (bytes_at pair (drop i value)) ≡ bytes_at Ready value → option_map (λ more. after ++ more) (bytes_at next (drop (i + 1) value)) ≡ bytes_at Ready value
+pub goes_on : (pair next : Pair) (value bytes after : List ℕ) (i : ℕ) → i < length value → ((rest : List ℕ) → option_map (λ more. bytes ++ more) (bytes_at pair (get_or value i 0 ∷ rest)) ≡ option_map (λ more. after ++ more) (bytes_at next rest))
+    → option_map (λ more. bytes ++ more) (bytes_at pair (drop i value)) ≡ bytes_at Ready value → option_map (λ more. after ++ more) (bytes_at next (drop (i + 1) value)) ≡ bytes_at Ready value
 goes_on pair next value bytes after i h step inv =
     sym (ap (option_map (λ more. bytes ++ more)) (at_drop_more (bytes_at pair) value i 0 h) ∙ step (drop (i + 1) value)) ∙ inv

@@ -87,8 +87,10 @@ impl Reader {
 
     // Takes the next line, and says whether the source goes on.
     fn take(&mut self, line: &Line) -> Result<bool, AllocError>
-        ensures taken { IfOk result (λ more. IsTrue more → (rest : AList Line) → told_with self.old (line.now ∷ rest) ≡ told_with self.new rest) }
-        ensures ended { IfOk result (λ more. more ≡ false → (rest : AList Line) → told_with self.old (line.now ∷ rest) ≡ told_with self.new []) }
+        ensures taken { IfOk result
+            (λ more. IsTrue more → (rest : AList Line) → told_with self.old (line.now ∷ rest) ≡ told_with self.new rest) }
+        ensures ended { IfOk result
+            (λ more. more ≡ false → (rest : AList Line) → told_with self.old (line.now ∷ rest) ≡ told_with self.new []) }
     {
         let (bare, mode) = uncommented(self.alloc, self.mode, line.text.as_bytes())?;
         if ends_source(&bare) {

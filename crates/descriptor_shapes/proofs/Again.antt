@@ -10,9 +10,10 @@ use Rattle.asl_tree.specs.declared.term.NamedDescriptor.{NamedDescriptor}
 use Rattle.asl_shape.specs.Plans.{Plan, a_name, a_call, a_form, Plans, no_plans, plan, plan_at, join}
 use Rattle.asl_shape.specs.Descriptors.{named_of}
 use Rattle.asl_numbers.specs.Numbers.{inside, nodes}
-use Rattle.descriptor_names.specs.Declaring.{has_terms, names_inside, declaration, declarations, alone, beside, is_first, opened, declaring, is_naming, declared_by, unless_declared, closed, stripped}
-use Rattle.descriptor_names.specs.Values.{Among, Arguments, Contents, OfCall, has_values, is_value_in, is_in_bits}
-use Rattle.descriptor_names.specs.Resolved.{at_node, resolved_use, resolved, resolved_from}
+use Rattle.descriptor_fields.specs.Declaring.{has_terms, names_inside, declaration, declarations, alone, beside, is_first, opened, declaring, is_naming, declared_by, unless_declared, closed, stripped}
+use Rattle.descriptor_fields.specs.Values.{Among, Arguments, Contents, OfCall, has_values, is_value_in, is_in_bits}
+use Rattle.descriptor_fields.specs.Constants.{resolved_use, resolved, resolved_from}
+use Rattle.descriptor_fields.specs.Nodes.{at_node}
 use Rattle.descriptor_shapes.proofs.Uses.{Resolves, Stays, Becomes, InCall, InForm, AllResolve, NoneResolve, MoreResolve, all_resolves}
 
 -- the terms declare no descriptor themselves

@@ -7,8 +7,9 @@ use Rattle.asl_tree.specs.FieldItems.{FieldItem}
 use Rattle.asl_tree.specs.Tree.{Tree, Trees, count, UnitName}
 use Rattle.aml_sessions.specs.Ready.{is_expression, RawReady, SpotReady}
 use Rattle.named_sessions.specs.Shaped.{UsedShaped, LetterShaped, ElementShaped, EffectShaped, IsFormed, IsFormedSpot, IsFormedAlone, AreFormedOperands, AreFormedSpots, AreFormedValues, AreFormedElements, AreFormed, AreFormedCases, IsNumber, IsCaseMember, AreCaseMembers, HaveCaseMembers, IsCaseValue, StartsNoElse, IsFollowed, AreNamed}
-use Rattle.descriptor_names.specs.Values.{has_value}
-use Rattle.descriptor_shapes.proofs.Like.{MayCount, Like, LikeInteger, LikeConstant, LikeString, LikeSlot, LikeDebug, LikeOmitted, LikeRaw, LikeMisshapen, SameUse, Counted, LikeCall, LikeApply, LikeOperated, LikeAssigned, LikeAssignedBy, LikeBuffer, LikeBytes, LikePackage, LikeVarPackage, LikeSized, LikeCondRefOf, LikeReturn, LikeName, LikeAlias, LikeMethod, LikeContainer, LikeScope, LikeIf, LikeElseIf, LikeElse, LikeWhile, LikeFor, LikePrint, LikeSwitch, LikeCase, LikeDefault, LikeRegion, LikeField, LikeIndexField, LikeBankField, LikeCreate, LikeBy, NoneBy, FirstBy, TargetBy, LikeAll, NoneAll, MoreAll, SameUnit, SameSkip, SameOffset, SameAccess, LikeConnected, SameResource, LikeUnits, NoUnits, MoreUnits, same_targets, same_count}
+use Rattle.descriptor_fields.specs.Values.{has_value}
+use Rattle.descriptor_shapes.proofs.Like.{MayCount, Like, LikeInteger, LikeConstant, LikeString, LikeSlot, LikeDebug, LikeOmitted, LikeRaw, LikeMisshapen, SameUse, Counted, LikeCall, LikeApply, LikeOperated, LikeAssigned, LikeAssignedBy, LikeBuffer, LikeBytes, LikePackage, LikeVarPackage, LikeSized, LikeCondRefOf, LikeReturn, LikeName, LikeAlias, LikeMethod, LikeContainer, LikeScope, LikeIf}
+use Rattle.descriptor_shapes.proofs.Like.{LikeElseIf, LikeElse, LikeWhile, LikeFor, LikePrint, LikeSwitch, LikeCase, LikeDefault, LikeRegion, LikeField, LikeIndexField, LikeBankField, LikeCreate, LikeBy, NoneBy, FirstBy, TargetBy, LikeAll, NoneAll, MoreAll, SameUnit, SameSkip, SameOffset, SameAccess, LikeConnected, SameResource, LikeUnits, NoUnits, MoreUnits, same_targets, same_count}
 
 never : {A : Type 0} → false ≡ true → A
 never e = absurd cc

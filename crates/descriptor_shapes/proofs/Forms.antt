@@ -20,8 +20,10 @@ use Rattle.asl_tree.specs.declared.term.Literal.{Literal}
 use Rattle.asl_tree.specs.declared.term.Literal.TheVariants as literals
 use Rattle.asl_tree.specs.Tree.{At, Tree, Integer, Package, VarPackage, Field, IndexField, BankField, Misshapen, UnitName, Trees, tree, count}
 use Rattle.asl_tree.specs.View.{operands_as, targets_of, plain_of, not_of, apply_of, fits, operated, symbol_of, buffer, body_bytes, counted, packaged, items_in, form}
-use Rattle.descriptor_names.specs.Values.{has_value, is_operand, is_value, has_values}
-use Rattle.descriptor_shapes.proofs.Like.{Like, LikeInteger, LikeConstant, LikeOmitted, LikeRaw, LikeItem, LikeExternal, LikeMutex, LikeEvent, LikeBreak, LikeContinue, LikeMisshapen, SameUse, Counted, LikeApply, LikeOperated, LikeAssigned, LikeAssignedBy, LikeBuffer, LikeBytes, LikePackage, LikeVarPackage, LikeSized, LikeCondRefOf, LikeReturn, LikeName, LikeAlias, LikeMethod, LikeContainer, LikeScope, LikeIf, LikeElseIf, LikeElse, LikeWhile, LikeFor, LikePrint, LikeSwitch, LikeCase, LikeDefault, LikeRegion, LikeField, LikeIndexField, LikeBankField, LikeCreate, LikeBy, NoneBy, FirstBy, TargetBy, LikeAll, NoneAll, MoreAll, LikeUnit, LikeUnits, NoUnits, MoreUnits, LikeFrom, NoneFrom, MoreFrom, same_count, LikeFill, LikeConnected, SameResource, LikeString, LikeDebug}
+use Rattle.descriptor_fields.specs.Values.{has_value, is_operand, is_value, has_values}
+use Rattle.descriptor_shapes.proofs.Like.{Like, LikeInteger, LikeConstant, LikeOmitted, LikeRaw, LikeItem, LikeExternal, LikeMutex, LikeEvent, LikeBreak, LikeContinue, LikeMisshapen, SameUse, Counted, LikeApply, LikeOperated, LikeAssigned, LikeAssignedBy, LikeBuffer, LikeBytes, LikePackage}
+use Rattle.descriptor_shapes.proofs.Like.{LikeVarPackage, LikeSized, LikeCondRefOf, LikeReturn, LikeName, LikeAlias, LikeMethod, LikeContainer, LikeScope, LikeIf, LikeElseIf, LikeElse, LikeWhile, LikeFor, LikePrint, LikeSwitch, LikeCase, LikeDefault, LikeRegion, LikeField}
+use Rattle.descriptor_shapes.proofs.Like.{LikeIndexField, LikeBankField, LikeCreate, LikeBy, NoneBy, FirstBy, TargetBy, LikeAll, NoneAll, MoreAll, LikeUnit, LikeUnits, NoUnits, MoreUnits, LikeFrom, NoneFrom, MoreFrom, same_count, LikeFill, LikeConnected, SameResource, LikeString, LikeDebug}
 
 -- ---- operands
 

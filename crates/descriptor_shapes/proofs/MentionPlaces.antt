@@ -5,7 +5,7 @@ use Rattle.acpi_values.specs.Paths.{AbsolutePath}
 use Rattle.acpi_values.specs.Operators.{Letter, Used, row_of}
 use Rattle.acpi_state.specs.FieldActs.{region_letters, field_letters}
 use Rattle.asl_tree.specs.FieldItems.{FieldItem, UnitItem, SkipItem, OffsetItem, AccessItem, ConnectionItem, ToName, ToBytes}
-use Rattle.asl_tree.specs.Names.{place_of}
+use Rattle.asl_tree.specs.Names.{declared_path}
 use Rattle.asl_tree.specs.Tree.{Tree, Use, Call, Apply, Buffer, Package, VarPackage, CondRefOf, Return, Name, Alias, External, Method, Mutex, Event, Container', Scope, Trees, no_trees, tree, OperationRegion, Field, IndexField, BankField, CreateField, UnitName, If, ElseIf, Else, While, Operated, Assigned, AssignedBy, Switch, Case, Default, For, Print}
 use Rattle.asl_meaning.specs.Declarations.{Declarations, scope_path, declare}
 use Rattle.acpi_names.specs.Errors.{Asked, Anything}
@@ -91,10 +91,10 @@ module _ (files : ℕ) where
     term_in (Name at name value) scope d h = (h.0, value_in true value scope h.1)
     term_in (Alias from source at name) scope d h = (h.0, (h.1, tt))
     term_in (External here at name type parameters) scope d h = (h, tt)
-    term_in (Method at name flags body) scope d h = (h.0, block_in body (place_of name scope) _ h.1)
+    term_in (Method at name flags body) scope d h = (h.0, block_in body (declared_path name scope) _ h.1)
     term_in (Mutex at name level) scope d h = (h, tt)
     term_in (Event at name) scope d h = (h, tt)
-    term_in (Container' kind at name body) scope d h = (h.0, block_in body (place_of name scope) _ h.1)
+    term_in (Container' kind at name body) scope d h = (h.0, block_in body (declared_path name scope) _ h.1)
     term_in (Scope here at name body) scope d h = ((h.0, h.1), block_in body (scope_path d name scope) d h.2)
     term_in (If test body) scope d h = both (mentions true test scope) (block_mentions body scope d) (value_in true test scope h.0) (block_in body scope d h.1)
     term_in (ElseIf test body) scope d h = both (mentions true test scope) (block_mentions body scope d) (value_in true test scope h.0) (block_in body scope d h.1)

@@ -9,7 +9,7 @@ use Rattle.asl_shape.specs.Plans.{Plan, a_fill, a_form, Plans, no_plans, plan, p
 use Rattle.asl_shape.specs.Descriptors.{named_of}
 use Rattle.asl_numbers.specs.Numbers.{inside, nodes, numbered, numbered_all}
 use Rattle.named_sessions.specs.Shaped.{IsFormed, AreFormed, AreFormedCases, AreNamed}
-use Rattle.descriptor_names.specs.Declaring.{has_terms, declared_by}
+use Rattle.descriptor_fields.specs.Declaring.{has_terms, declared_by}
 use Rattle.descriptor_shapes.proofs.Again.{IfTerms, IsOwn, AreOwn}
 
 -- no value of a Name is the bytes of descriptors

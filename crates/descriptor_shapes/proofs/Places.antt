@@ -10,9 +10,11 @@ use Rattle.asl_parser.specs.Within.{IsIn}
 use Rattle.asl_numbers.specs.Numbers.{inside, nodes}
 use Rattle.asl_shape.specs.Places.{AreTold}
 use Rattle.asl_shape.specs.Plans.{Plan, a_fill, a_name, a_call, a_form, Plans, no_plans, plan, join}
-use Rattle.descriptor_names.specs.Declaring.{has_terms, names_inside, names_among, declarations, alone, beside, is_first, opened, declaring, declared_by, unless_declared, closed, stripped}
-use Rattle.descriptor_names.specs.Values.{Among, Arguments, Contents, OfCall, is_value_in, is_in_bits}
-use Rattle.descriptor_names.specs.Resolved.{at_node, resolved_use, broken_use, resolved, resolved_from, broken, broken_from, fields_of, checked_terms, broken_fields, resolved_terms}
+use Rattle.descriptor_fields.specs.Declaring.{has_terms, names_inside, names_among, declarations, alone, beside, is_first, opened, declaring, declared_by, unless_declared, closed, stripped}
+use Rattle.descriptor_fields.specs.Values.{Among, Arguments, Contents, OfCall, is_value_in, is_in_bits}
+use Rattle.descriptor_fields.specs.Constants.{resolved_use, broken_use, resolved, resolved_from, broken, broken_from}
+use Rattle.descriptor_fields.specs.Nodes.{at_node}
+use Rattle.descriptor_checks.specs.Resolved.{fields_of, checked_terms, broken_fields, resolved_terms}
 use Rattle.descriptor_shapes.specs.Places.{NamesWithin, PlanWithin, PlansWithin}
 
 module _ (files : ℕ) where

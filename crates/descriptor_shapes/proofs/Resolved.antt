@@ -3,9 +3,9 @@ use Rattle.std.proofs.Common.{ℕ, false, refl}
 use Rattle.asl_shape.specs.Plans.{Plans}
 use Rattle.asl_numbers.specs.Numbers.{numbered_all}
 use Rattle.named_sessions.specs.Shaped.{AreFormed, AreNamed}
-use Rattle.descriptor_names.specs.Declaring.{declaring}
-use Rattle.descriptor_names.specs.Values.{OfCall}
-use Rattle.descriptor_names.specs.Resolved.{fields_of, resolved_terms}
+use Rattle.descriptor_fields.specs.Declaring.{declaring}
+use Rattle.descriptor_fields.specs.Values.{OfCall}
+use Rattle.descriptor_checks.specs.Resolved.{fields_of, resolved_terms}
 use Rattle.descriptor_shapes.proofs.Again.{all_again}
 use Rattle.descriptor_shapes.proofs.Formed.{all_formed}
 use Rattle.descriptor_shapes.proofs.Own.{own}

@@ -11,8 +11,8 @@ use Rattle.acpi_names.specs.Terms.{are_terms}
 use Rattle.asl_shape.specs.Plans.{Plans}
 use Rattle.asl_numbers.specs.Numbers.{numbered_all}
 use Rattle.named_sessions.specs.Shaped.{AreFormed, AreNamed}
-use Rattle.descriptor_names.specs.Resolved.{mentions_of, names_of, table_of, checked_terms, resolved_terms}
-use Rattle.descriptor_names.specs.Told.{checked_trees, names_told, kinds_told}
+use Rattle.descriptor_checks.specs.Resolved.{mentions_of, names_of, table_of, checked_terms, resolved_terms}
+use Rattle.descriptor_checks.specs.Told.{checked_trees, names_told, kinds_told}
 use Rattle.unused_names.specs.Left.{DescriptorsAreApart}
 use Rattle.stripped_names.proofs.Apart.{untold_apart}
 use Rattle.stripped_names.proofs.Forgotten.{forgotten_index}

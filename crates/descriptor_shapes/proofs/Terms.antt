@@ -16,11 +16,12 @@ use Rattle.asl_numbers.specs.Numbers.{inside, nodes, numbered, numbered_all}
 use Rattle.acpi_names.specs.Terms.{has_no_targets, is_value, are_values, is_term, are_terms}
 use Rattle.named_sessions.specs.Shaped.{AreFormed, AreNamed}
 use Rattle.named_sessions.proofs.Terms.{formed_terms}
-use Rattle.descriptor_names.specs.Declaring.{has_terms, names_inside, declaration, declarations, alone, beside, is_first, opened, declaring}
-use Rattle.descriptor_names.specs.Values.{Arguments, OfCall, is_value as is_value_of}
-use Rattle.descriptor_names.specs.Resolved.{fields_of}
-use Rattle.descriptor_names.specs.Told.{checked_trees}
-use Rattle.descriptor_shapes.proofs.Like.{Like, LikeInteger, SameUse, Counted, LikeCall, LikeApply, LikeOperated, LikeAssigned, LikeAssignedBy, LikeBuffer, LikePackage, LikeVarPackage, LikeSized, LikeCondRefOf, LikeReturn, LikeName, LikeMethod, LikeContainer, LikeScope, LikeIf, LikeElseIf, LikeElse, LikeWhile, LikeFor, LikePrint, LikeSwitch, LikeCase, LikeDefault, LikeRegion, LikeBankField, LikeCreate, LikeBy, NoneBy, FirstBy, TargetBy, LikeAll, NoneAll, MoreAll, LikeFrom, NoneFrom, MoreFrom, LikeString}
+use Rattle.descriptor_fields.specs.Declaring.{has_terms, names_inside, declaration, declarations, alone, beside, is_first, opened, declaring}
+use Rattle.descriptor_fields.specs.Values.{Arguments, OfCall, is_value as is_value_of}
+use Rattle.descriptor_checks.specs.Resolved.{fields_of}
+use Rattle.descriptor_checks.specs.Told.{checked_trees}
+use Rattle.descriptor_shapes.proofs.Like.{Like, LikeInteger, SameUse, Counted, LikeCall, LikeApply, LikeOperated, LikeAssigned, LikeAssignedBy, LikeBuffer, LikePackage, LikeVarPackage, LikeSized, LikeCondRefOf, LikeReturn, LikeName, LikeMethod, LikeContainer, LikeScope, LikeIf}
+use Rattle.descriptor_shapes.proofs.Like.{LikeElseIf, LikeElse, LikeWhile, LikeFor, LikePrint, LikeSwitch, LikeCase, LikeDefault, LikeRegion, LikeBankField, LikeCreate, LikeBy, NoneBy, FirstBy, TargetBy, LikeAll, NoneAll, MoreAll, LikeFrom, NoneFrom, MoreFrom, LikeString}
 use Rattle.descriptor_shapes.proofs.Forms.{values_by, behind_place}
 use Rattle.descriptor_shapes.proofs.Uses.{same, all_same, all_resolves, like, from_like, all_like}
 use Rattle.descriptor_shapes.proofs.Own.{IsOwnTree, AreOwnTrees, trees_own}

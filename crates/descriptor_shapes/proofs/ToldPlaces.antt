@@ -7,21 +7,22 @@ use Rattle.iasl_messages.specs.declared.message.Message.{Message}
 use Rattle.acpi_values.specs.Paths.{AbsolutePath, is_same_path}
 use Rattle.acpi_state.specs.Objects.{lookup}
 use Rattle.acpi_state.specs.Outcomes.{choose}
-use Rattle.asl_tree.specs.Names.{place_of, denoted}
+use Rattle.asl_tree.specs.Names.{declared_path, denoted}
 use Rattle.asl_tree.specs.Tree.{At}
 use Rattle.asl_tree.specs.declared.path.Path.{Path}
 use Rattle.asl_tree.specs.declared.term.NamedDescriptor.{NamedDescriptor}
 use Rattle.asl_meaning.specs.Declarations.{ExternalType, Declarations, nothing_declared, is_named}
-use Rattle.acpi_names.specs.Errors.{NameError, Twice, DeclaredHere, Missing, NoContainer, LeavesRoot, Differs, TooLong, WrongCount, WrongKind, Asked, Anything, AnObject, AValue, AMutex, AnEvent, AUnit, ARegion, unless, Whole, whole_of, step_errors, length_errors, is_new, has_parent, agrees_with, final, is_container, takes_none, takes, is_mutex, is_event, is_unit, is_region, declared_errors, external_errors, use_errors, call_errors, name_end, asked_types}
+use Rattle.acpi_names.specs.Errors.{NameError, Twice, DeclaredHere, Missing, NoContainer, LeavesRoot, Differs, TooLong, WrongCount, WrongKind, Asked, Anything, AnObject, AValue, AMutex, AnEvent, AUnit, ARegion, unless, Whole, whole_of, step_errors}
+use Rattle.acpi_names.specs.Errors.{length_errors, is_new, has_parent, agrees_with, final, is_container, takes_none, takes, is_mutex, is_event, is_unit, is_region, declared_errors, external_errors, use_errors, call_errors, name_end, asked_types}
 use Rattle.acpi_names.specs.Mentions.{Mention, Used', Sought, Called, Declares, Outside, Opens, after, opening_errors, mention_errors, all_errors, mention_types, all_types}
 use Rattle.asl_numbers.specs.Numbers.{numbered_all}
 use Rattle.name_checks.specs.Messages.{message_of}
 use Rattle.named_sessions.specs.Places.{IsIn, at_of}
 use Rattle.asl_shape.specs.Places.{AreTold}
 use Rattle.asl_shape.specs.Plans.{Plans}
-use Rattle.descriptor_names.specs.Declaring.{declaring}
-use Rattle.descriptor_names.specs.Resolved.{checked_terms, broken_fields, mentions_of, names_of, table_of}
-use Rattle.descriptor_names.specs.Told.{fault_asked, fault_of, field_errors, is_below, below_errors, all_below, is_no_field, is_of_no_descriptor, all_field_errors, all_use_faults, names_wrong, fields_wrong, kinds_wrong, names_told, kinds_told}
+use Rattle.descriptor_fields.specs.Declaring.{declaring}
+use Rattle.descriptor_checks.specs.Resolved.{checked_terms, broken_fields, mentions_of, names_of, table_of}
+use Rattle.descriptor_checks.specs.Told.{fault_asked, fault_of, field_errors, is_below, below_errors, all_below, is_no_field, is_of_no_descriptor, all_field_errors, all_use_faults, names_wrong, fields_wrong, kinds_wrong, names_told, kinds_told}
 use Rattle.descriptor_shapes.specs.Places.{PlansWithin}
 use Rattle.descriptor_shapes.proofs.TreePlaces.{numbered_within}
 use Rattle.descriptor_shapes.proofs.MentionPlaces.{IsMentionedIn, AreMentionedIn, block_in}
@@ -75,12 +76,12 @@ module _ (files : ℕ) where
   module _ (whole : Whole) where
     declared_in : (at : At) (name : Path) (scope : AbsolutePath) (d : Declarations) → IsIn files at → AreErrorsIn (declared_errors whole at name scope d)
     declared_in at name scope d h =
-        let path : AbsolutePath = place_of name scope in
+        let path : AbsolutePath = declared_path name scope in
         both _ _ (unless_in (is_new d path) (Twice at path) h) (both _ _ (step_in at name scope h) (both _ _ (unless_in (has_parent whole.all path) (Missing at name) h) (length_in at name path h)))
 
     external_in : (here at : At) (name : Path) (e : ExternalType) (scope : AbsolutePath) (d : Declarations) → IsIn files here → IsIn files at → AreErrorsIn (external_errors whole here at name e scope d)
     external_in here at name e scope d k h =
-        let path : AbsolutePath = place_of name scope in
+        let path : AbsolutePath = declared_path name scope in
         both _ _ (unless_in (not (is_some (lookup whole.all.declared path))) (DeclaredHere at path) h)
         (both _ _ (step_in at name scope h) (both _ _ (length_in at name path h) (unless_in (agrees_with (lookup d.external path) e) (Differs here name) k)))
 
@@ -168,7 +169,7 @@ module _ (files : ℕ) where
 
   module _ (look : AbsolutePath → Option NamedDescriptor) where
     below_in : (m : Mention) → IsMentionedIn files m → AreErrorsIn (below_errors look m)
-    below_in (Declares at name as' scope) h = unless_in (not (is_below look (place_of name scope))) (Missing at name) h
+    below_in (Declares at name as' scope) h = unless_in (not (is_below look (declared_path name scope))) (Missing at name) h
     below_in _ h = tt
 
     all_below_in : (ms : List Mention) → AreMentionedIn files ms → AreErrorsIn (all_below look ms)

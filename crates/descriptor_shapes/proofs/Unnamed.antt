@@ -6,7 +6,7 @@ use Rattle.iasl_messages.specs.declared.place.Place.{Place}
 use Rattle.acpi_values.specs.Paths.{NameSeg, AbsolutePath}
 use Rattle.acpi_state.specs.Objects.{lookup}
 use Rattle.acpi_state.specs.Outcomes.{choose}
-use Rattle.asl_tree.specs.Names.{is_searched, place_of, denoted}
+use Rattle.asl_tree.specs.Names.{is_searched, declared_path, denoted}
 use Rattle.asl_tree.specs.declared.path.Path.{Path}
 use Rattle.asl_tree.specs.declared.term.NamedDescriptor.{NamedDescriptor}
 use Rattle.asl_meaning.specs.Declarations.{nothing_declared}
@@ -19,11 +19,13 @@ use Rattle.asl_numbers.specs.Numbers.{inside, nodes, numbered_all}
 use Rattle.asl_shape.specs.Plans.{Plan, a_fill, a_name, a_call, a_form, Plans, no_plans, plan, plan_at, join}
 use Rattle.asl_shape.specs.Descriptors.{named_of}
 use Rattle.name_checks.specs.Messages.{message_of}
-use Rattle.descriptor_names.specs.Declaring.{has_terms, names_inside, names_among, declarations, alone, beside, is_first, opened, declaring, is_naming, declared_by, unless_declared, closed, stripped, names_descriptor, names_descriptors}
-use Rattle.descriptor_names.specs.Senses.{Nothing, descriptor_sense, field_in, field_sense, last_segment, outer_path, sense_of}
-use Rattle.descriptor_names.specs.Values.{Among, Arguments, Contents, OfCall, is_value_in, is_in_bits}
-use Rattle.descriptor_names.specs.Resolved.{named_first, named_in, named_from, described_by, described, mentions_of, names_of, table_of, field_at, fields_by, fields_in, fields_of, resolved_use, broken_use, resolved, resolved_from, broken, broken_from, checked_terms, broken_fields, resolved_terms}
-use Rattle.descriptor_names.specs.Told.{is_nothing, is_field_sense, field_errors, fault_of, is_below, below_errors, all_below, sense_in, is_no_field, is_of_no_descriptor, all_field_errors, all_use_faults, owner_of, field_owners, names_wrong, fields_wrong, kinds_wrong, owners_of, names_told, kinds_told}
+use Rattle.descriptor_fields.specs.Declaring.{has_terms, names_inside, names_among, declarations, alone, beside, is_first, opened, declaring, is_naming, declared_by, unless_declared, closed, stripped, names_descriptor, names_descriptors}
+use Rattle.descriptor_checks.specs.Senses.{Nothing, descriptor_sense, field_in, field_sense, last_segment, outer_path, sense_of}
+use Rattle.descriptor_fields.specs.Values.{Among, Arguments, Contents, OfCall, is_value_in, is_in_bits}
+use Rattle.descriptor_fields.specs.Constants.{resolved_use, broken_use, resolved, resolved_from, broken, broken_from}
+use Rattle.descriptor_fields.specs.Nodes.{named_first, named_in, named_from}
+use Rattle.descriptor_checks.specs.Resolved.{described_by, described, mentions_of, names_of, table_of, field_at, fields_by, fields_in, fields_of, checked_terms, broken_fields, resolved_terms}
+use Rattle.descriptor_checks.specs.Told.{is_nothing, is_field_sense, field_errors, fault_of, is_below, below_errors, all_below, sense_in, is_no_field, is_of_no_descriptor, all_field_errors, all_use_faults, owner_of, field_owners, names_wrong, fields_wrong, kinds_wrong, owners_of, names_told, kinds_told}
 use Rattle.descriptor_shapes.proofs.Each.{Each, all_kept}
 
 -- neither of two
@@ -139,7 +141,7 @@ table_none ps e = ap (λ ns. lookup (described ns (mentions_of ps))) (none_from 
 field_none : (name : Path) (scope : AbsolutePath) → field_sense no_descriptor name scope ≡ Nothing
 field_none name scope = by_last (last_segment name.segs)
   where
-    by_last : (o : Option NameSeg) → choose o Nothing (λ segment. choose (no_descriptor (place_of (outer_path name) scope)) Nothing (λ named. field_in named segment)) ≡ Nothing
+    by_last : (o : Option NameSeg) → choose o Nothing (λ segment. choose (no_descriptor (declared_path (outer_path name) scope)) Nothing (λ named. field_in named segment)) ≡ Nothing
     by_last None = refl
     by_last (Some segment) = refl
 
@@ -202,7 +204,7 @@ below_none [] = refl
 below_none (segment ∷ outer) = refl
 
 declared_below : (m : Mention) → below_errors no_descriptor m ≡ []
-declared_below (Declares at name as' scope) = ap (λ b. unless (not b) (Missing at name)) (below_none (place_of name scope))
+declared_below (Declares at name as' scope) = ap (λ b. unless (not b) (Missing at name)) (below_none (declared_path name scope))
 declared_below _ = refl
 
 no_below : (ms : List Mention) → all_below no_descriptor ms ≡ []

@@ -15,10 +15,10 @@ use Rattle.acpi_names.proofs.MentionTypes.{block_types}
 use Rattle.asl_numbers.specs.Numbers.{numbered_all}
 use Rattle.asl_shape.specs.Plans.{Plans}
 use Rattle.name_checks.specs.Messages.{message_of}
-use Rattle.descriptor_names.specs.Declaring.{declaring}
-use Rattle.descriptor_names.specs.Senses.{Sense, Nothing, ADescriptor, AField, sense_of}
-use Rattle.descriptor_names.specs.Resolved.{mentions_of, names_of, table_of, checked_terms, broken_fields}
-use Rattle.descriptor_names.specs.Told.{is_nothing, is_field_sense, fault_asked, all_below, sense_in, is_no_field, is_of_no_descriptor, use_faults, all_use_faults, names_wrong, fields_wrong, kinds_wrong, checked_trees, names_told, kinds_told}
+use Rattle.descriptor_fields.specs.Declaring.{declaring}
+use Rattle.descriptor_checks.specs.Senses.{Sense, Nothing, ADescriptor, AField, sense_of}
+use Rattle.descriptor_checks.specs.Resolved.{mentions_of, names_of, table_of, checked_terms, broken_fields}
+use Rattle.descriptor_checks.specs.Told.{is_nothing, is_field_sense, fault_asked, all_below, sense_in, is_no_field, is_of_no_descriptor, use_faults, all_use_faults, names_wrong, fields_wrong, kinds_wrong, checked_trees, names_told, kinds_told}
 use Rattle.descriptor_shapes.proofs.Each.{Each, each_mapped, all_kept}
 
 -- ---- nothing in a list

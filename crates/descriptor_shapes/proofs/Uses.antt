@@ -9,8 +9,9 @@ use Rattle.asl_tree.specs.declared.term.Word.{Word}
 use Rattle.asl_tree.specs.Tree.{At}
 use Rattle.asl_shape.specs.Plans.{Plan, an_integer, a_text, a_fill, a_word, a_local, an_arg, debug, omitted, a_name, a_unit, a_skip, an_offset, an_access, a_call, a_form, Plans, no_plans, plan}
 use Rattle.asl_numbers.specs.Numbers.{inside, nodes, numbered, numbered_all}
-use Rattle.descriptor_names.specs.Values.{Among, Arguments, Contents, OfCall, is_value_in, is_in_bits}
-use Rattle.descriptor_names.specs.Resolved.{at_node, resolved_use, resolved, resolved_from}
+use Rattle.descriptor_fields.specs.Values.{Among, Arguments, Contents, OfCall, is_value_in, is_in_bits}
+use Rattle.descriptor_fields.specs.Constants.{resolved_use, resolved, resolved_from}
+use Rattle.descriptor_fields.specs.Nodes.{at_node}
 use Rattle.descriptor_shapes.proofs.Like.{Like, LikeInteger, LikeString, LikeSlot, LikeDebug, LikeOmitted, LikeFill, LikeItem, SameUse, Counted, LikeCall, LikeAll, SameUnit, SameSkip, SameOffset, SameAccess, LikeFrom, NoneFrom, MoreFrom}
 use Rattle.descriptor_shapes.proofs.Forms.{values_by, form_like}
 

@@ -10,9 +10,9 @@ use Rattle.asl_tree.specs.View.{form}
 use Rattle.asl_shape.specs.Plans.{Plan, a_fill, a_form, Plans, no_plans, plan, plan_at, join}
 use Rattle.asl_numbers.specs.Numbers.{inside, nodes, numbered, numbered_all}
 use Rattle.named_sessions.specs.Shaped.{AreFormed, AreNamed}
-use Rattle.descriptor_names.specs.Declaring.{has_terms, names_inside, declarations, alone, beside, is_first, opened, declaring, is_naming}
-use Rattle.descriptor_names.specs.Values.{Among, OfCall}
-use Rattle.descriptor_names.specs.Resolved.{fields_of, checked_terms}
+use Rattle.descriptor_fields.specs.Declaring.{has_terms, names_inside, declarations, alone, beside, is_first, opened, declaring, is_naming}
+use Rattle.descriptor_fields.specs.Values.{Among, OfCall}
+use Rattle.descriptor_checks.specs.Resolved.{fields_of, checked_terms}
 use Rattle.unused_names.specs.Bare.{nowhere}
 use Rattle.stripped_names.specs.Whole.{IsShaped, Describes, Where, IsWhole, AreWhole}
 use Rattle.stripped_names.proofs.Numbered.{shaped_at}

@@ -14,10 +14,10 @@ ghost use Rattle.asl_numbers.specs.Numbers.{numbered_all};
 ghost use Rattle.asl_shape.specs.Plans.{Plans};
 ghost use Rattle.name_checks.specs.Messages.{message_of};
 ghost use Rattle.named_sessions.specs.Shaped.{AreNamed, AreFormed};
-ghost use Rattle.descriptor_names.specs.Declaring.{declaring, names_descriptors};
-ghost use Rattle.descriptor_names.specs.Senses.{Nothing};
-ghost use Rattle.descriptor_names.specs.Resolved.{mentions_of, names_of, table_of, checked_terms, broken_fields, resolved_terms};
-ghost use Rattle.descriptor_names.specs.Told.{sense_in, all_below, owners_of, checked_trees, names_told, kinds_told};
+ghost use Rattle.descriptor_fields.specs.Declaring.{declaring, names_descriptors};
+ghost use Rattle.descriptor_checks.specs.Senses.{Nothing};
+ghost use Rattle.descriptor_checks.specs.Resolved.{mentions_of, names_of, table_of, checked_terms, broken_fields, resolved_terms};
+ghost use Rattle.descriptor_checks.specs.Told.{sense_in, all_below, owners_of, checked_trees, names_told, kinds_told};
 ghost use Rattle.stripped_names.specs.Whole.{AreWhole};
 ghost use Rattle.descriptor_shapes.specs.Places.{PlansWithin};
 

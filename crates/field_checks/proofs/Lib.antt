@@ -1,3 +1,4 @@
 pub mod UnitFaults
 pub mod Terms
 pub mod Walk
+pub mod Absent

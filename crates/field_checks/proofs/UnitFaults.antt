@@ -11,7 +11,6 @@ use Rattle.field_layout.specs.declared.segments.SerialItem.{SerialItem}
 use Rattle.field_layout.specs.declared.segments.SerialItem.TheVariants as Item
 use Rattle.field_layout.specs.declared.segments.Said.{Said}
 use Rattle.field_layout.specs.Segments.{said_behind, item_fault}
-use Rattle.field_checks.specs.declared.units.UnitFault.{UnitFault}
 use Rattle.field_checks.specs.Units.{serial_item, unit_fault}
 use Rattle.field_checks.proofs.Walk.{plans_at, no_more}
 

@@ -12,11 +12,11 @@ use Rattle.asl_tree.specs.declared.term.Special.TheVariants as Special
 use Rattle.asl_tree.specs.Tree.{At}
 use Rattle.asl_shape.specs.Plans.{Plan, a_text, a_name, a_unit, a_call, a_form, omitted, debug, Plans, no_plans, plan, join, how_many}
 use Rattle.asl_numbers.specs.Numbers.{inside, nodes, numbered, numbered_all}
-use Rattle.asl_formats.specs.Nodes.{goes_in}
-use Rattle.asl_formats.specs.Forms as F
-use Rattle.asl_formats.specs.Plans as P
+use Rattle.asl_prints.specs.Nodes.{goes_in}
+use Rattle.asl_prints.specs.Forms as F
+use Rattle.asl_prints.specs.Plans as P
 use Rattle.asl_formats.proofs.Sources.{steppable_same}
-use Rattle.asl_formats.proofs.PlanTrees.{Stands, StandAll, steppable_stands}
+use Rattle.asl_prints.proofs.PlanTrees.{Stands, StandAll, steppable_stands}
 use Rattle.asl_formats.proofs.PlanForms.{formed_stands, formed_stand}
 use Rattle.form_counts.specs.Counts.{formed_nodes, given, joining, joining_all, printing, in_braces, of_each, inside_form, form_count, inside_count, each_count, term_count, terms_count}
 

@@ -7,9 +7,9 @@ use Rattle.asl_tree.specs.Formats.{cut}
 use Rattle.asl_tree.specs.Tree.{At}
 use Rattle.asl_tree.specs.View.{tree_of, trees_of}
 use Rattle.asl_shape.specs.Plans.{how_many, plan_of, plans_of}
-use Rattle.asl_formats.specs.Forms as F
-use Rattle.asl_formats.specs.Plans as P
-use Rattle.asl_formats.proofs.PlanTrees.{term_stands, nodes_stand, given_stand, expression_stands, fars_stand}
+use Rattle.asl_prints.specs.Forms as F
+use Rattle.asl_prints.specs.Plans as P
+use Rattle.asl_prints.proofs.PlanTrees.{term_stands, nodes_stand, given_stand, expression_stands, fars_stand}
 
 here : At
 here = record { id = 0; place = record { file = 0; line = 0; column = 0 } }

@@ -3,9 +3,9 @@ use Rattle.std.proofs.Common.{◌≡◌, ℕ, suc, ◌+◌, ◌-◌, ◌≤◌, 
 use Rattle.std.specs.Prelude.{nat_eq, if◌then◌else◌}
 use Rattle.std.proofs.lemmas.Bool.Decides.{nat_tests}
 use Rattle.asl_tree.specs.Formats.{Cut, cut, with_byte}
-use Rattle.asl_formats.specs.Texts.{mark_of}
-use Rattle.asl_formats.specs.declared.texts.Mark.TheVariants as M
-use Rattle.asl_formats.proofs.Cuts.{cut_none, cut_hole, cut_percent, cut_byte}
+use Rattle.asl_prints.specs.Texts.{mark_of}
+use Rattle.asl_prints.specs.declared.texts.Mark.TheVariants as M
+use Rattle.asl_prints.proofs.Cuts.{cut_none, cut_hole, cut_percent, cut_byte}
 use Rattle.form_counts.specs.Counts.{joining, joining_all}
 
 -- ---- how many arguments a format asks for

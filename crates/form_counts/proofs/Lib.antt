@@ -1,6 +1,6 @@
+pub mod Absent
 pub mod Counted
 pub mod Fitting
-pub mod Formless
 pub mod Joining
 pub mod Parting
 pub mod Searching

@@ -9,7 +9,7 @@ use Rattle.asl_tree.specs.declared.term.Term.{Term}
 use Rattle.asl_tree.specs.declared.term.Term as D
 use Rattle.asl_shape.specs.Plans.{Plan, a_text, a_form, Plans, no_plans, plan, plan_of, plans_of}
 use Rattle.asl_numbers.specs.Numbers.{nodes}
-use Rattle.asl_formats.specs.Plans.{is_filled, is_steppable}
+use Rattle.asl_prints.specs.Plans.{is_filled, is_steppable}
 use Rattle.form_counts.specs.Counts.{printing, of_each, inside_count, each_count, term_count, terms_count, loop_count}
 use Rattle.form_counts.specs.Parts.{FormPart, ALoop, AText, APlaced, Stays, part_of, part_count, part_size, placed}
 use Rattle.form_counts.proofs.Terms.{by_term}

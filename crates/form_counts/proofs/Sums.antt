@@ -10,7 +10,7 @@ use Rattle.asl_tree.specs.declared.term.Term.{Term}
 use Rattle.asl_tree.specs.declared.term.Term as D
 use Rattle.asl_shape.specs.Plans.{Plan, a_form, Plans, plan_of, plans_of}
 use Rattle.asl_numbers.specs.Numbers.{nodes}
-use Rattle.asl_formats.specs.Plans.{is_next}
+use Rattle.asl_prints.specs.Plans.{is_next}
 use Rattle.form_counts.specs.Counts.{given, joining_all, of_each, inside_count, each_count, term_count, terms_count, loop_count, text_count, braces_count}
 use Rattle.form_counts.specs.Parts.{FormPart, part_of, part_count, part_size}
 use Rattle.form_counts.proofs.Terms.{call_is, form_is, same_capped, both_counted, more_counted}

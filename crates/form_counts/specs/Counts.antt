@@ -1,36 +1,17 @@
 -- How many nodes terms have with what stands for their Fors and for what prints, counted on the terms as they are.
-use Rattle.std.specs.Prelude.{ℕ, suc, ◌+◌, Bool, true, false, ◌||◌, if◌then◌else◌, List, [], ◌∷◌}
+use Rattle.std.specs.Prelude.{ℕ, suc, ◌+◌, if◌then◌else◌, List, [], ◌∷◌}
 use Rattle.asl_tree.specs.Formats.{cut}
 use Rattle.asl_tree.specs.declared.term.Op.{Op}
 use Rattle.asl_tree.specs.declared.term.Control.TheVariants as Control
 use Rattle.asl_tree.specs.declared.term.Special.TheVariants as Special
 use Rattle.asl_shape.specs.Plans.{Plan, omitted, a_text, a_call, a_form, Plans, no_plans, plan}
 use Rattle.asl_numbers.specs.Numbers.{nodes}
-use Rattle.asl_formats.specs.Nodes.{goes_in}
-use Rattle.asl_formats.specs.Pass.{has_terms}
-use Rattle.asl_formats.specs.Plans.{formed_plans, is_filled, is_next, is_steppable}
+use Rattle.asl_prints.specs.Nodes.{goes_in, has_terms}
+use Rattle.asl_prints.specs.Plans.{formed_plans, is_filled, is_next, is_steppable}
 
 -- how many nodes terms have with what stands for their Fors and for what prints
 abbrev pub formed_nodes : Plans → ℕ
 formed_nodes ps = nodes (formed_plans ps)
-
--- a For, or what prints
-abbrev pub is_form : Op → Bool
-is_form (Op.Control Control.For) = true
-is_form (Op.Control Control.Printf) = true
-is_form (Op.Control Control.Fprintf) = true
-is_form op = false
-
--- whether one of these stands in a term, and whether one is among terms or in them
-abbrev mutual
-  pub has_form_in : Plan → Bool
-  has_form_in (a_call name args) = has_form args
-  has_form_in (a_form op args body) = is_form op || (has_form args || has_form body)
-  has_form_in p = false
-
-  pub has_form : Plans → Bool
-  has_form no_plans = false
-  has_form (plan place p ps) = has_form_in p || has_form ps
 
 -- how many nodes a start or a step is, by those inside it: none, where it is left out
 abbrev pub given : Plan → ℕ → ℕ

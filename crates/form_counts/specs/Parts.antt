@@ -4,7 +4,7 @@ use Rattle.asl_tree.specs.declared.term.Op.{Op}
 use Rattle.asl_tree.specs.declared.term.Control.TheVariants as Control
 use Rattle.asl_shape.specs.Plans.{Plan, a_text, a_form, Plans, no_plans, plan, plan_of, plans_of}
 use Rattle.asl_numbers.specs.Numbers.{inside, nodes}
-use Rattle.asl_formats.specs.Plans.{is_filled, is_steppable}
+use Rattle.asl_prints.specs.Plans.{is_filled, is_steppable}
 use Rattle.form_counts.specs.Counts.{inside_count, loop_count, text_count}
 use Rattle.form_counts.specs.declared.parts.Part.{Part}
 use Rattle.form_counts.specs.declared.parts.Part.TheVariants as C

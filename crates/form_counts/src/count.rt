@@ -1,8 +1,9 @@
 //! How many nodes terms have with what stands for their Fors and for what prints. A count of more than a u64 holds is the largest u64.
 ghost use Rattle.std.specs.Prelude.{◌≡◌, ◌-◌, ◌^◌, min};
 ghost use Rattle.asl_shape.specs.Plans.{a_form, plan_of, plans_of};
-ghost use Rattle.asl_formats.specs.Plans.{is_next as is_continue};
-ghost use Rattle.form_counts.specs.Counts.{braces_count, each_count, formed_nodes, given, inside_count, loop_count, of_each, term_count, terms_count, text_count};
+ghost use Rattle.asl_prints.specs.Plans.{is_next as is_continue};
+ghost use Rattle.form_counts.specs.Counts.{braces_count, each_count, formed_nodes, given, inside_count, loop_count, of_each, term_count};
+ghost use Rattle.form_counts.specs.Counts.{terms_count, text_count};
 
 use crate::joins::joins;
 use crate::parts::{Part, part_of};

@@ -1,11 +1,12 @@
 //! Whether a While may stand for a For, and a Store for what prints.
 ghost use Rattle.std.specs.Prelude.{◌≡◌, ◌&&◌};
 ghost use Rattle.asl_shape.specs.Plans.{plan_of, plans_of};
-ghost use Rattle.asl_formats.specs.Plans.{is_filled as are_filled, is_steppable};
+ghost use Rattle.asl_prints.specs.Plans.{is_filled as are_filled, is_steppable};
 
 use crate::joins::asks_for;
-use asl_formats::leave::have_far_continue;
-use asl_formats::stand::{are_given, is_expression};
+use asl_formats::stand::is_expression;
+use asl_prints::filled::are_given;
+use asl_prints::leave::have_far_continue;
 use asl_tree::term::{Node, Term};
 
 fn all(first: bool, second: bool, third: bool) -> bool

@@ -3,7 +3,7 @@ ghost use Rattle.std.specs.Prelude.{◌≡◌, ◌+◌, ◌-◌, ◌^◌, length
 ghost use Rattle.asl_tree.specs.Formats.{cut};
 ghost use Rattle.form_counts.specs.Counts.{joining_all};
 
-use asl_formats::texts::{Mark, first_mark};
+use asl_prints::texts::{Mark, first_mark};
 use iasl_ports::list::behind;
 
 /// Whether a format asks for so many arguments.

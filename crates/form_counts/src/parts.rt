@@ -4,7 +4,7 @@ ghost use Rattle.asl_tree.specs.declared.term.Op.TheVariants as O;
 ghost use Rattle.asl_tree.specs.declared.term.Control.TheVariants as C;
 ghost use Rattle.iasl_messages.specs.declared.place.Place.{Place as APlace};
 ghost use Rattle.asl_shape.specs.Plans.{no_plans, plan, plan_of, plans_of};
-ghost use Rattle.asl_formats.specs.Plans.{is_filled as are_filled, is_steppable};
+ghost use Rattle.asl_prints.specs.Plans.{is_filled as are_filled, is_steppable};
 ghost use Rattle.form_counts.specs.Parts.{ALoop, AText, Stays, part_of as parts_of, placed, shown};
 
 use crate::fits::{is_filled, may_step};
@@ -75,7 +75,8 @@ fn filled_part<'a>(format: &'a [u8], args: &'a [Node]) -> Part<'a>
 
 // A Printf with this format and these arguments.
 fn text_part<'a>(format: &'a Term, args: &'a [Node]) -> Part<'a>
-    ensures { (place : APlace) → shown result ≡ parts_of (O.Control C.Printf) (plan place (plan_of format.now) (plans_of args.now)) no_plans }
+    ensures { (place : APlace) →
+        shown result ≡ parts_of (O.Control C.Printf) (plan place (plan_of format.now) (plans_of args.now)) no_plans }
 {
     match format {
         Term::Text(text) => filled_part(text.as_bytes(), args),

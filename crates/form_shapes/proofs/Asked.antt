@@ -9,8 +9,9 @@ use Rattle.acpi_values.specs.Operators as L
 use Rattle.acpi_state.specs.Objects.{MethodObject, ContainerObject}
 use Rattle.acpi_state.specs.FieldActs.{region_letters, field_letters}
 use Rattle.asl_tree.specs.FieldItems.{FieldItem, UnitItem, SkipItem, OffsetItem, AccessItem, ConnectionItem, ToName, ToBytes}
-use Rattle.asl_tree.specs.Names.{place_of}
-use Rattle.asl_tree.specs.Tree.{Tree, Integer, Constant, String, InSlot, Debug, Omitted, Raw, Use, Call, Apply, Buffer, Package, VarPackage, CondRefOf, Return, Name, Alias, External, Method, Mutex, Event, Container', Scope, Operated, Assigned, AssignedBy, Trees, no_trees, tree, count, OperationRegion, Field, IndexField, BankField, CreateField, UnitName, If, ElseIf, Else, While, For, Print, Break, Continue, Switch, Case, Default}
+use Rattle.asl_tree.specs.Names.{declared_path}
+use Rattle.asl_tree.specs.Tree.{Tree, Integer, Constant, String, InSlot, Debug, Omitted, Raw, Use, Call, Apply, Buffer, Package, VarPackage, CondRefOf, Return, Name, Alias, External, Method, Mutex, Event, Container', Scope, Operated}
+use Rattle.asl_tree.specs.Tree.{Assigned, AssignedBy, Trees, no_trees, tree, count, OperationRegion, Field, IndexField, BankField, CreateField, UnitName, If, ElseIf, Else, While, For, Print, Break, Continue, Switch, Case, Default}
 use Rattle.asl_meaning.specs.Declarations.{As, Declarations, scope_path, with_declared, declare, as_buffer_field}
 use Rattle.asl_meaning.specs.Meaning.{spot_form}
 use Rattle.acpi_names.specs.Errors.{Asked, Anything}
@@ -187,10 +188,10 @@ module _ (Forms : Type 0) (Listed : List (FieldItem UnitName) → Type 0) (Symbo
     term_asked (Name at name value) h scope d = (tt, value_asked value h.1 h.2 scope)
     term_asked (Alias from source at name) h scope d = (tt, (tt, tt))
     term_asked (External here at name type parameters) h scope d = (tt, tt)
-    term_asked (Method at name flags body) h scope d = (tt, all_asked body h.2 (place_of name scope) (with_declared (place_of name scope) (As (MethodObject flags)) d))
+    term_asked (Method at name flags body) h scope d = (tt, all_asked body h.2 (declared_path name scope) (with_declared (declared_path name scope) (As (MethodObject flags)) d))
     term_asked (Mutex at name level) h scope d = (tt, tt)
     term_asked (Event at name) h scope d = (tt, tt)
-    term_asked (Container' kind at name body) h scope d = (tt, all_asked body h.2 (place_of name scope) (with_declared (place_of name scope) (As (ContainerObject kind)) d))
+    term_asked (Container' kind at name body) h scope d = (tt, all_asked body h.2 (declared_path name scope) (with_declared (declared_path name scope) (As (ContainerObject kind)) d))
     term_asked (Scope here at name body) h scope d = (tt, all_asked body h.1 (scope_path d name scope) d)
     term_asked (If test body) h scope d = asked_both (mentions true test scope) (block_mentions body scope d) (value_asked test h.0 h.1 scope) (all_asked body h.2 scope d)
     term_asked (ElseIf test body) h scope d = asked_both (mentions true test scope) (block_mentions body scope d) (value_asked test h.1 h.2 scope) (all_asked body h.3 scope d)

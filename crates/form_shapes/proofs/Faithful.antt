@@ -8,7 +8,7 @@ use Rattle.asl_meaning.specs.Declarations.{externals, known_of}
 use Rattle.acpi_names.specs.Errors.{name_errors, type_errors}
 use Rattle.aml_meaning.specs.ByteSession.{IsFaithful}
 use Rattle.named_sessions.specs.Shaped.{AreFormed}
-use Rattle.asl_formats.specs.Forms.{formed_all}
+use Rattle.asl_prints.specs.Forms.{formed_all}
 use Rattle.asl_formats.proofs.Formed.{same_formed}
 use Rattle.form_shapes.specs.Near.{AreNear}
 use Rattle.form_shapes.proofs.Names.{same_externals, same_known}

@@ -5,14 +5,15 @@ use Rattle.acpi_values.specs.Operators.{Letter}
 use Rattle.acpi_state.specs.FieldActs.{region_letters, field_letters}
 use Rattle.asl_tree.specs.FieldItems.{FieldItem}
 use Rattle.asl_tree.specs.Formats.{cut}
-use Rattle.asl_tree.specs.Tree.{Tree, Integer, Constant, String, InSlot, Debug, Omitted, Raw, Use, Call, Apply, Buffer, Package, VarPackage, CondRefOf, Return, Name, Alias, External, Method, Mutex, Event, Container', Scope, Fill, Misshapen, Operated, Assigned, AssignedBy, Trees, no_trees, tree, count, OperationRegion, Field, IndexField, BankField, CreateField, UnitName, If, ElseIf, Else, While, For, Print, Break, Continue, Item, Switch, Case, Default}
+use Rattle.asl_tree.specs.Tree.{Tree, Integer, Constant, String, InSlot, Debug, Omitted, Raw, Use, Call, Apply, Buffer, Package, VarPackage, CondRefOf, Return, Name, Alias, External, Method, Mutex, Event, Container', Scope, Fill, Misshapen}
+use Rattle.asl_tree.specs.Tree.{Operated, Assigned, AssignedBy, Trees, no_trees, tree, count, OperationRegion, Field, IndexField, BankField, CreateField, UnitName, If, ElseIf, Else, While, For, Print, Break, Continue, Item, Switch, Case, Default}
 use Rattle.acpi_names.specs.Terms.{is_value, are_values, is_term, are_terms}
 use Rattle.acpi_names.proofs.Mentions.{first_true, second_true}
 use Rattle.aml_sessions.specs.Ready.{is_expression, IsText}
 use Rattle.named_sessions.specs.Shaped.{StartsNoElse, IsFollowed, IsCaseValue, IsFormed, IsFormedSpot, EffectShaped, AreFormedOperands, AreFormedValues, AreFormed, AreFormedCases}
 use Rattle.named_sessions.proofs.Terms.{formed_terms}
-use Rattle.asl_formats.specs.Forms.{followed, concatenated, with_text, with_arguments, print_tree, optional, stepped, stepped_all, while_tree, for_trees, is_steppable, is_filled, have_far_continue, spread, formed, formed_args, formed_all}
-use Rattle.asl_formats.specs.Forms as forms
+use Rattle.asl_prints.specs.Forms.{followed, concatenated, with_text, with_arguments, print_tree, optional, stepped, stepped_all, while_tree, for_trees, is_steppable, is_filled, have_far_continue, spread, formed, formed_args, formed_all}
+use Rattle.asl_prints.specs.Forms as forms
 use Rattle.asl_formats.proofs.Sources.{steppable_same}
 use Rattle.form_shapes.specs.Near.{IsNear, AreNear}
 use Rattle.form_shapes.proofs.Values.{value_same, args_same}

@@ -7,8 +7,8 @@ use Rattle.asl_tree.specs.Tree.{Tree, String, Omitted, Return, Name, Alias, Exte
 use Rattle.acpi_names.specs.Terms.{is_value, are_values, is_term, are_terms}
 use Rattle.acpi_names.proofs.Mentions.{first_true, second_true}
 use Rattle.asl_meaning.specs.Continues.{has_continue, have_continue}
-use Rattle.asl_formats.specs.Forms as forms
-use Rattle.asl_formats.specs.Forms.{followed, concatenated, with_text, with_arguments, print_tree, optional, stepped, stepped_all, while_tree, for_trees, is_steppable, is_filled, spread, formed, formed_args, formed_all}
+use Rattle.asl_prints.specs.Forms as forms
+use Rattle.asl_prints.specs.Forms.{followed, concatenated, with_text, with_arguments, print_tree, optional, stepped, stepped_all, while_tree, for_trees, is_steppable, is_filled, spread, formed, formed_args, formed_all}
 use Rattle.hidden_locals.specs.Locals.{locals, locals_all}
 use Rattle.hidden_locals.specs.Switches.{depth, depth_all, is_crossed, are_crossed, HasLocals, HaveLocalsInside, HaveLocals}
 use Rattle.hidden_locals.proofs.Named.{named_left, named_right}

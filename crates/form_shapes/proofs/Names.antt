@@ -14,7 +14,7 @@ use Rattle.acpi_names.proofs.MentionErrors.{block_errors, block_calls}
 use Rattle.acpi_names.proofs.MentionTypes.{block_types}
 use Rattle.named_sessions.specs.Shaped.{AreFormed}
 use Rattle.named_sessions.proofs.Terms.{formed_terms}
-use Rattle.asl_formats.specs.Forms.{formed_all}
+use Rattle.asl_prints.specs.Forms.{formed_all}
 use Rattle.asl_formats.proofs.Declared.{same_declarations}
 use Rattle.form_shapes.specs.Near.{AreNear}
 use Rattle.form_shapes.proofs.Formed.{forms_formed}

@@ -13,7 +13,7 @@ use Rattle.asl_tree.specs.declared.term.Special.TheVariants as Special
 use Rattle.asl_tree.specs.declared.term.Symbolic.TheVariants as Symbolic
 use Rattle.asl_tree.specs.Tree.{At, Tree, Integer, String, Use, Omitted, Package, VarPackage, Misshapen, Trees, no_trees, tree, count, UnitName}
 use Rattle.asl_tree.specs.View.{fits, form, operands_as, apply_of, operated, buffer, body_bytes, packaged, items_in}
-use Rattle.asl_formats.specs.Forms.{have_far_continue}
+use Rattle.asl_prints.specs.Forms.{have_far_continue}
 use Rattle.form_shapes.specs.Near.{IsNear, AreNear}
 
 abbrev pub is_for : Op → Bool

@@ -6,7 +6,7 @@ use Rattle.asl_tree.specs.Formats.{Cut, with_byte, with_hole, is_hole, is_percen
 use Rattle.asl_tree.specs.Tree.{Tree, Omitted, Trees, no_trees, tree, count, UnitName}
 use Rattle.aml_sessions.specs.Ready.{IsText, is_expression}
 use Rattle.named_sessions.specs.Shaped.{AreFormedValues}
-use Rattle.asl_formats.specs.Forms.{are_filled, is_given, are_given, is_filled}
+use Rattle.asl_prints.specs.Forms.{are_filled, is_given, are_given, is_filled}
 
 abbrev pub AreTexts : List (List ℕ) → Type 0
 AreTexts [] = Unit {0}

@@ -4,14 +4,14 @@ use Rattle.std.specs.Prelude.{if◌then◌else◌, ◌&&◌, ◌||◌}
 use Rattle.acpi_values.specs.Paths.{AbsolutePath}
 use Rattle.acpi_state.specs.Objects.{MethodObject, ContainerObject}
 use Rattle.asl_tree.specs.Formats.{cut}
-use Rattle.asl_tree.specs.Names.{place_of}
+use Rattle.asl_tree.specs.Names.{declared_path}
 use Rattle.asl_tree.specs.Tree.{Tree, String, Omitted, Return, Name, Alias, External, Method, Mutex, Event, Container', Scope, If, ElseIf, Else, While, For, Print, Switch, Case, Default, Continue, OperationRegion, Field, IndexField, BankField, CreateField, Trees, no_trees, tree}
 use Rattle.asl_meaning.specs.Declarations.{As, Declarations, nothing_declared, scope_path, with_declared, declare, declare_all}
 use Rattle.acpi_names.specs.Mentions.{Mention, Declares, Opens, is_spot, mentions, mentions_all, term_mentions, block_mentions}
 use Rattle.acpi_names.specs.Terms.{is_value, are_values, is_term, are_terms}
 use Rattle.acpi_names.proofs.MentionErrors.{undeclared}
 use Rattle.acpi_names.proofs.Mentions.{right_nil, first_true, second_true, after_term}
-use Rattle.asl_formats.specs.Forms.{followed, concatenated, with_text, with_arguments, print_tree, are_given, are_filled, is_filled, optional, stepped, stepped_all, for_trees, is_steppable, spread, formed, formed_args, formed_all}
+use Rattle.asl_prints.specs.Forms.{followed, concatenated, with_text, with_arguments, print_tree, are_given, are_filled, is_filled, optional, stepped, stepped_all, for_trees, is_steppable, spread, formed, formed_args, formed_all}
 use Rattle.asl_formats.proofs.Declared.{followed_declares, formed_declares}
 use Rattle.form_shapes.proofs.Values.{value_same, args_same}
 use Rattle.form_shapes.proofs.Light.{either, either_third, Telling, told, told_append, told_both, told_value, told_values, heard, heard_all, light}
@@ -310,11 +310,11 @@ module _ (telling : Telling) where
     kept_told (Alias from source at name) e scope d = refl
     kept_told (External here at name type parameters) e scope d = refl
     kept_told (Method at name flags body) e scope d =
-        ap (λ c. telling.of (Declares at name (As (MethodObject flags)) scope) d || c) (all_told body e (place_of name scope) (with_declared (place_of name scope) (As (MethodObject flags)) d))
+        ap (λ c. telling.of (Declares at name (As (MethodObject flags)) scope) d || c) (all_told body e (declared_path name scope) (with_declared (declared_path name scope) (As (MethodObject flags)) d))
     kept_told (Mutex at name level) e scope d = refl
     kept_told (Event at name) e scope d = refl
     kept_told (Container' kind at name body) e scope d =
-        ap (λ c. telling.of (Declares at name (As (ContainerObject kind)) scope) d || c) (all_told body e (place_of name scope) (with_declared (place_of name scope) (As (ContainerObject kind)) d))
+        ap (λ c. telling.of (Declares at name (As (ContainerObject kind)) scope) d || c) (all_told body e (declared_path name scope) (with_declared (declared_path name scope) (As (ContainerObject kind)) d))
     kept_told (Scope here at name body) e scope d = ap (λ c. telling.of (Opens here at name scope (scope_path d name scope)) d || c) (all_told body e (scope_path d name scope) d)
     kept_told (If test body) e scope d = with_value test body (first_true (is_value test) (are_terms body) e) scope d (all_told body (second_true (is_value test) (are_terms body) e) scope d)
     kept_told (ElseIf test body) e scope d = with_value test body (first_true (is_value test) (are_terms body) e) scope d (all_told body (second_true (is_value test) (are_terms body) e) scope d)

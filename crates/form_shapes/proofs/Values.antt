@@ -5,7 +5,7 @@ use Rattle.asl_meaning.specs.Meaning.{spot_form}
 use Rattle.asl_tree.specs.Tree.{Tree, Call, Apply, Operated, Assigned, AssignedBy, Buffer, Package, VarPackage, CondRefOf, Return, Name, Method, Container', Scope, If, ElseIf, Else, While, For, Print, Switch, Case, Default, OperationRegion, BankField, CreateField, Trees, no_trees, tree}
 use Rattle.acpi_names.specs.Terms.{has_no_targets, is_value, are_values}
 use Rattle.acpi_names.proofs.Mentions.{first_true, second_true}
-use Rattle.asl_formats.specs.Forms.{formed, formed_args}
+use Rattle.asl_prints.specs.Forms.{formed, formed_args}
 
 mutual
   pub value_same : (t : Tree) → is_value t ≡ true → formed t ≡ t

@@ -1,7 +1,7 @@
 -- Fors whose step may stand before each of their Continues.
 use Rattle.std.specs.Prelude.{◌≡◌, false}
 use Rattle.asl_tree.specs.Tree.{Tree, Method, Container', Scope, If, ElseIf, Else, While, For, Switch, Case, Default, Trees, no_trees, tree}
-use Rattle.asl_formats.specs.Forms.{have_far_continue}
+use Rattle.asl_prints.specs.Forms.{have_far_continue}
 
 -- no Continue of a For stands in the braces of a Device, a Scope or another container in it, where names lead elsewhere
 abbrev mutual

@@ -6,7 +6,7 @@ ghost use Rattle.acpi_state.specs.Objects.{lookup};
 ghost use Rattle.asl_tree.specs.Tree.{Trees};
 ghost use Rattle.asl_meaning.specs.Declarations.{declarations, externals, known_of};
 ghost use Rattle.acpi_names.specs.Errors.{whole_of, name_errors, type_errors};
-ghost use Rattle.asl_formats.specs.Forms.{formed_all};
+ghost use Rattle.asl_prints.specs.Forms.{formed_all};
 ghost use Rattle.aml_meaning.specs.ByteSession.{IsFaithful};
 ghost use Rattle.aml_sessions.specs.Ready.{AreItems};
 ghost use Rattle.named_sessions.specs.Shaped.{AreFormed, AreNamed};

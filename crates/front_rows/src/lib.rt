@@ -1,4 +1,7 @@
-//! Tests alone: the preprocessor, tokens and syntax.
+//! Rows: a row is a source or a call and the exact value expected for it, taken from outside: the ACPI Specification,
+//! ACPICA's compiler, or worked by hand, never from this compiler's own output.
+//!
+//! Here, in tests alone: the preprocessor, tokens and syntax.
 #![tactic(auto)]
 
 #[cfg(test)]

@@ -2,7 +2,7 @@
 use Rattle.std.proofs.Common.{◌≡◌, ℕ, suc, Bool, true, false, [], Option, Some, None, refl, ap, ◌∙◌}
 use Rattle.acpi_values.specs.Paths.{AbsolutePath}
 use Rattle.acpi_state.specs.Objects.{MethodObject, ContainerObject}
-use Rattle.asl_tree.specs.Names.{place_of}
+use Rattle.asl_tree.specs.Names.{declared_path}
 use Rattle.asl_tree.specs.Tree.{Tree, Method, Container', Scope, If, ElseIf, Else, While, Switch, Case, Default, Break, Continue, Trees, no_trees, tree}
 use Rattle.asl_meaning.specs.Declarations.{As, Declarations, nothing_declared, scope_path, with_declared, declare, declare_all, declarations}
 use Rattle.hidden_locals.specs.Crossing.{have_continue}
@@ -33,9 +33,9 @@ mutual
   term_declares (ElseIf test body) h plan level inside scope d = all_declare body h plan level inside scope d
   term_declares (Else body) h plan level inside scope d = all_declare body h plan level inside scope d
   term_declares (While test body) h plan level inside scope d = all_declare body h plan level false scope d
-  term_declares (Container' kind at name body) h plan level inside scope d = all_declare body h plan level inside (place_of name scope) (with_declared (place_of name scope) (As (ContainerObject kind)) d)
+  term_declares (Container' kind at name body) h plan level inside scope d = all_declare body h plan level inside (declared_path name scope) (with_declared (declared_path name scope) (As (ContainerObject kind)) d)
   term_declares (Scope here at name body) h plan level inside scope d = all_declare body h plan level inside (scope_path d name scope) d
-  term_declares (Method at name flags body) h plan level inside scope d = all_declare body h (plan_of body) 0 false (place_of name scope) (with_declared (place_of name scope) (As (MethodObject flags)) d)
+  term_declares (Method at name flags body) h plan level inside scope d = all_declare body h (plan_of body) 0 false (declared_path name scope) (with_declared (declared_path name scope) (As (MethodObject flags)) d)
   term_declares t h plan level inside scope d = refl
 
   pub chain_declares : (cases : Trees) → EndWithDefault cases → (plan : Plan) (level : ℕ) (scope : AbsolutePath) (d : Declarations) → declare_all (chain_of (links plan level cases (default_link plan level cases))) scope d ≡ declare_all cases scope d

@@ -21,7 +21,10 @@ module _ (convert : Trees → Trees) (IsKept : Trees → Type 0) where
 
   -- terms that stand in no loop of one turn, whatever flag they use
   pub from_crossed : (w : World) (k : ℕ) {m m' : Run Trees Flow} → AreBegun w w.running → shown_here w k ≡ false → Crossed convert IsKept w k false false m m' → From convert IsKept Outside w ClearFlow (λ f. f) m m'
-  from_crossed w k begun hidden h = record { by = λ j later fine. let e = h.by j fine (record { later = later; hidden = hidden_here w j.world k begun later hidden; holds = tt }) in record { result = e.result; end = e.end; later = e.later; fine = e.fine; holds = clear e.result e.end e.holds; keeps = e.keeps; left_is = e.left_is; right_is = e.right_is ∙ ap (λ r. record { result = r; state = right convert IsKept e.end }) (same e.result) } }
+  from_crossed w k begun hidden h = record {
+    by = λ j later fine. let e = h.by j fine (record { later = later; hidden = hidden_here w j.world k begun later hidden; holds = tt }) in
+        record { result = e.result; end = e.end; later = e.later; fine = e.fine; holds = clear e.result e.end e.holds; keeps = e.keeps; left_is = e.left_is; right_is = e.right_is ∙ ap (λ r. record { result = r; state = right convert IsKept e.end }) (same e.result) };
+  }
     where
       clear : (r : Result Flow) (t : Veiled) → EndsAt convert IsKept (AfterTerm convert IsKept w k false false) r t → Ends convert IsKept ClearFlow r t
       clear (Done f) t p = p.1

@@ -190,7 +190,8 @@ module _ (w : World) where
           by_same true e rest = record { same = ap (λ v. (Steps v, hide w s)) (hs f (same_number f.number n e)); result = hc f h.0 h.1; store = cs; keeps = refl }
           by_same false e rest = rest
 
-  blind_change_frame : (n : ℕ) (g : Frame → Frame) → ((f : Frame) → (g f).number ≡ f.number) → ((f : Frame) → f.number ≡ n → g (veiled w f) ≡ veiled w (g f)) → ((f : Frame) → ClearList w f.locals → ClearList w f.args → ClearList w (g f).locals × ClearList w (g f).args) → ((f : Frame) → length (g f).locals ≡ length f.locals) → ((f : Frame) → f.number ≡ n → hidden_in w (g f) ≡ hidden_in w f) → Blind w (λ u. Unit {0}) (change_frame n g)
+  blind_change_frame : (n : ℕ) (g : Frame → Frame) → ((f : Frame) → (g f).number ≡ f.number) → ((f : Frame) → f.number ≡ n → g (veiled w f) ≡ veiled w (g f)) → ((f : Frame) → ClearList w f.locals → ClearList w f.args → ClearList w (g f).locals × ClearList w (g f).args) → ((f : Frame) → length (g f).locals ≡ length f.locals)
+      → ((f : Frame) → f.number ≡ n → hidden_in w (g f) ≡ hidden_in w f) → Blind w (λ u. Unit {0}) (change_frame n g)
   blind_change_frame n g hn hs hc hl hk = record { by = λ names s cn cs. subst (λ o. BlindAt w (λ u. Unit {0}) s (frame_changed n g (frame_of n s.frames) names s) (frame_changed n g o names (hide w s))) (sym (frame_hidden n s.frames)) (by_frame names s cs (frame_of n s.frames)) }
     where
       with_hidden : (fs : List Frame) → with_frame n g (hide_frames w fs) ≡ hide_frames w (with_frame n g fs)

@@ -64,7 +64,8 @@ module _ (convert : Trees → Trees) (IsKept : Trees → Type 0) (reach : Reach)
       go (Done a) t p = f t.world a p
       go (Stopped x) t p = tt
 
-  pub from_then : (w : World) {A C D E : Type 0} {P : World → A → Type 0} {c : A → C} (Q : World → D → Type 0) (d : D → E) {m : Run Trees A} {m' : Run Trees C} {k : A → Run Trees D} (k' : C → Run Trees E) → From convert IsKept reach w P c m m' → ((w' : World) → Later w w' → (a : A) → P w' a → From convert IsKept reach w' Q d (k a) (k' (c a))) → From convert IsKept reach w Q d (then_run m k) (then_run m' k')
+  pub from_then : (w : World) {A C D E : Type 0} {P : World → A → Type 0} {c : A → C} (Q : World → D → Type 0) (d : D → E) {m : Run Trees A} {m' : Run Trees C} {k : A → Run Trees D} (k' : C → Run Trees E) → From convert IsKept reach w P c m m'
+      → ((w' : World) → Later w w' → (a : A) → P w' a → From convert IsKept reach w' Q d (k a) (k' (c a))) → From convert IsKept reach w Q d (then_run m k) (then_run m' k')
   from_then w {A} {C} {D} {E} {P = P} {c = c} Q d {m = m} {m' = m'} {k = k} k' sm sk = record { by = λ j later fine. let h = sm.by j later fine in go j later fine h.result h.end h.later h.fine h.holds h.keeps h.left_is h.right_is }
     where
       go : (j : Veiled) → Later w j.world → IsFine convert IsKept j → (r : Result A) (t : Veiled) → Later j.world t.world → IsFine convert IsKept t → Ends convert IsKept P r t → kept_in reach j.world t.state.store.frames ≡ kept_in reach j.world j.state.store.frames →

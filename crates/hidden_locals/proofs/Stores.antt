@@ -14,7 +14,8 @@ use Rattle.acpi_state.specs.FieldUnits.{Extent, FieldUnit, InRegion, InBank, Beh
 use Rattle.acpi_state.specs.Outcomes.{Action}
 use Rattle.acpi_state.specs.Actions.{give, fail, computed, and_then, needed, emit, ask, ask_number, write_named}
 use Rattle.acpi_state.specs.Places.{data_in, content, put}
-use Rattle.acpi_state.specs.Access.{bits_at, shift, Words, Port, Update, Preserve, WriteAsOnes, WriteAsZeros, update_of, word_bits, word_bytes, first_word, last_word, is_whole, read_words, old_word, new_word, write_word, write_words, through, window, window_to, is_within, words_in, words_behind, in_bank, Way, InWords, AsBuffer, AsPins, way_of, by_way, buffer_of_answer, ask_buffer, receive, transfer, read_by, write_by, within_region, words_port, port, value_of_bits, bits_of_value, read_bits, read_as, read_unit, buffer_of_value, write_bits, write_as, write_unit, bits_of_unit}
+use Rattle.acpi_state.specs.Access.{bits_at, shift, Words, Port, Update, Preserve, WriteAsOnes, WriteAsZeros, update_of, word_bits, word_bytes, first_word, last_word, is_whole, read_words, old_word, new_word, write_word, write_words, through, window, window_to, is_within, words_in, words_behind, in_bank, Way}
+use Rattle.acpi_state.specs.Access.{InWords, AsBuffer, AsPins, way_of, by_way, buffer_of_answer, ask_buffer, receive, transfer, read_by, write_by, within_region, words_port, port, value_of_bits, bits_of_value, read_bits, read_as, read_unit, buffer_of_value, write_bits, write_as, write_unit, bits_of_unit}
 use Rattle.acpi_state.specs.BufferFields.{own_data, source_content, bytes_of_buffer, within_bytes, field_bytes, replace_source, read_buffer_field, write_buffer_field}
 use Rattle.acpi_state.specs.Stores.{Spot, Nowhere, DebugObject, At, held_by, held, read, replaced, no_reference, direct, as_kind, store_data, unanswered, store_found, store_place, store_through, store_arg, store_to, store}
 use Rattle.hidden_locals.specs.Worlds.{World, hide, Clear, ClearPlace, ClearHeld, ClearSource, ClearStore, ClearSpot}

@@ -10,7 +10,7 @@ use Rattle.acpi_state.specs.Objects.{MethodObject, ContainerObject}
 use Rattle.acpi_state.specs.Outcomes.{Flow, Normal, Gives, NoValue, Run, done, then_run, on_flow}
 use Rattle.acpi_state.specs.Outcomes as O
 use Rattle.acpi_state.specs.Loops.{is_true}
-use Rattle.asl_tree.specs.Names.{Known, place_of}
+use Rattle.asl_tree.specs.Names.{Known, declared_path}
 use Rattle.asl_tree.specs.Tree.{Tree, Package, VarPackage, Method, Container', Scope, If, ElseIf, Else, While, Switch, Case, Default, Break, Continue, Trees, no_trees, tree}
 use Rattle.asl_meaning.specs.Meaning as S
 use Rattle.asl_meaning.specs.Meaning.{leave_switch}
@@ -135,7 +135,8 @@ module _ (width : Width) (known : Known) (turns : ℕ) (call : AbsolutePath → 
   due_free (tree Continue ts) h level inside scope = continue_free inside (unswitched_all plan level inside ts) scope
   due_free (tree t ts) h level inside scope = refl
 
-module _ (w : World) (shown : ℕ → Bool) (shows : AreShown shown w) (begun : AreBegun w w.running) (width : Width) (known : Known) (n : ℕ) (call call' : AbsolutePath → List Value → Run Trees Flow) (calls : CallAlike without_switches IsUnswitchable call call') (last : (path : AbsolutePath) (args : List Value) → Lasting (call path args)) (plan : Plan) (k : ℕ) (levels : (level : ℕ) → level < plan.levels → LevelFree w plan k level) where
+module _ (w : World) (shown : ℕ → Bool) (shows : AreShown shown w) (begun : AreBegun w w.running) (width : Width) (known : Known) (n : ℕ) (call call' : AbsolutePath → List Value → Run Trees Flow) (calls : CallAlike without_switches IsUnswitchable call call') (last : (path : AbsolutePath) (args : List Value)
+    → Lasting (call path args)) (plan : Plan) (k : ℕ) (levels : (level : ℕ) → level < plan.levels → LevelFree w plan k level) where
   abbrev R : Tree → AbsolutePath → Bool → Run Trees Flow
   R = S.run width known (suc n) call
 
@@ -271,11 +272,11 @@ module _ (w : World) (shown : ℕ → Bool) (shows : AreShown shown w) (begun : 
         X.crossed_loop without_switches IsUnswitchable w k inside low (suc n) _ _ _ _ (loop_test test h.0 (shows_left shown (locals test) (locals_all body) s) scope)
         (lists body h.1 (shows_right shown (locals test) (locals_all body) s) level fits false low (allowed_loop plan k inside low (have_continue body) (are_crossed body) may) scope false)
     term (Container' kind at name body) o h s level fits inside low may scope due =
-        X.crossed_tested without_switches IsUnswitchable w k inside low (from_create without_switches IsUnswitchable Everywhere w (place_of name scope) (ContainerObject kind) (λ u after. tt)) (λ u. lists body h s level fits inside low may (place_of name scope) false)
+        X.crossed_tested without_switches IsUnswitchable w k inside low (from_create without_switches IsUnswitchable Everywhere w (declared_path name scope) (ContainerObject kind) (λ u after. tt)) (λ u. lists body h s level fits inside low may (declared_path name scope) false)
     term (Scope here at name body) o h s level fits inside low may scope due = X.crossed_tested without_switches IsUnswitchable w k inside low (P.from_find without_switches IsUnswitchable Everywhere w known name scope) (λ path. lists body h s level fits inside low may path false)
     term (Method at name flags body) o h s level fits inside low may scope due =
-        X.crossed_tested without_switches IsUnswitchable w k inside low (from_create without_switches IsUnswitchable Everywhere w (place_of name scope) (MethodObject flags) (λ u after. tt))
-        (λ u. X.crossed_tested without_switches IsUnswitchable w k inside low (from_keep without_switches IsUnswitchable Everywhere w (place_of name scope) body h) (λ u. X.crossed_end without_switches IsUnswitchable w k inside low))
+        X.crossed_tested without_switches IsUnswitchable w k inside low (from_create without_switches IsUnswitchable Everywhere w (declared_path name scope) (MethodObject flags) (λ u after. tt))
+        (λ u. X.crossed_tested without_switches IsUnswitchable w k inside low (from_keep without_switches IsUnswitchable Everywhere w (declared_path name scope) body h) (λ u. X.crossed_end without_switches IsUnswitchable w k inside low))
     term (Switch value cases) o h s level fits inside low may scope due = absurd o
     term Continue o h s level fits inside low may scope due = absurd o
     term (Case value body) o h s level fits inside low may scope due = absurd h
@@ -287,7 +288,8 @@ module _ (w : World) (shown : ℕ → Bool) (shows : AreShown shown w) (begun : 
     chains no_trees h s level fits low may v scope otherwise default o = o
     chains (tree (Case value body) cases) h s level fits low may v scope otherwise default o =
         let own = shows_left shown (locals (Case value body)) (locals_all cases) s in
-        chained_case without_switches IsUnswitchable w (nth plan.free level) k low v width known (suc n) call call' (S.hits width known (suc n) call value (S.equals width known v (value_at width known (suc n) call value scope)) v scope) (S.run_cases width known (suc n) call cases v scope otherwise) (case_test (local (nth plan.free level)) value) body (unswitched_all plan (suc level) true body) (links plan level cases default) scope
+        chained_case without_switches IsUnswitchable w (nth plan.free level) k low v width known (suc n) call call' (S.hits width known (suc n) call value (S.equals width known v (value_at width known (suc n) call value scope)) v scope) (S.run_cases width known (suc n) call cases v scope otherwise)
+        (case_test (local (nth plan.free level)) value) body (unswitched_all plan (suc level) true body) (links plan level cases default) scope
         (tests_case without_switches IsUnswitchable w (nth plan.free level) k (FlagIs low) v width known (suc n) call call' value scope (case_same (nth plan.free level) low v value h.0 (shows_left shown (locals value) (locals_all body) own) scope))
         (lists body h.1 (shows_right shown (locals value) (locals_all body) own) (suc level) (fits_first (suc level) (depth_all body) (depth_all cases) plan.levels fits) true low (allowed_first plan k true low (have_continue body) (have_continue cases) (are_crossed body) (are_crossed cases) may) scope false)
         (chains cases h.2 (shows_right shown (locals (Case value body)) (locals_all cases) s) level (fits_rest (suc level) (depth_all body) (depth_all cases) plan.levels fits) low (allowed_rest plan k true low (have_continue body) (have_continue cases) (are_crossed body) (are_crossed cases) may) v scope otherwise default o)

@@ -24,9 +24,10 @@ use Rattle.asl_meaning.specs.FieldTerms.{first_unit}
 use Rattle.acpi_state.specs.Loops.{is_true}
 use Rattle.asl_tree.specs.Formats.{cut}
 use Rattle.asl_tree.specs.Literals.{literal_number}
-use Rattle.asl_tree.specs.Names.{Known, place_of}
+use Rattle.asl_tree.specs.Names.{Known, declared_path}
 use Rattle.asl_tree.specs.Symbols.{compound_operator}
-use Rattle.asl_tree.specs.Tree.{Tree, Integer, Constant, String, InSlot, Debug, Omitted, Raw, Use, Call, Apply, Buffer, Package, VarPackage, CondRefOf, Return, Name, Alias, External, Method, Mutex, Event, Container', Scope, Fill, Misshapen, Trees, no_trees, tree, OperationRegion, Field, IndexField, BankField, CreateField, If, ElseIf, Else, While, For, Print, Switch, Case, Default, Break, Continue, Item, Operated, Assigned, AssignedBy}
+use Rattle.asl_tree.specs.Tree.{Tree, Integer, Constant, String, InSlot, Debug, Omitted, Raw, Use, Call, Apply, Buffer, Package, VarPackage, CondRefOf, Return, Name, Alias, External, Method, Mutex, Event, Container', Scope, Fill, Misshapen}
+use Rattle.asl_tree.specs.Tree.{Trees, no_trees, tree, OperationRegion, Field, IndexField, BankField, CreateField, If, ElseIf, Else, While, For, Print, Switch, Case, Default, Break, Continue, Item, Operated, Assigned, AssignedBy}
 use Rattle.asl_meaning.specs.Meaning as S
 use Rattle.asl_meaning.specs.Meaning.{spot_form, assign_with, target_operator, leave_switch, unless_omitted, then_step}
 use Rattle.hidden_locals.specs.Worlds.{World, Clear, AreClear, ClearAll, ClearSpot, ClearOperands, ClearFlow, Later}
@@ -162,17 +163,17 @@ module _ (convert : Trees → Trees) (IsKept : Trees → Type 0) (reach : Reach)
     runs (Return value) h w f scope due = then_flow w (P.from_valued convert IsKept reach w (runs value h w f scope false)) (λ w' later v p. from_done convert IsKept reach w' ClearFlow (λ f. f) (O.Return v) (λ u after. clear_later w' u after.shown v p))
     runs (Name at name value) h w f scope due =
         then_flow w (P.from_valued convert IsKept reach w (runs value h w f scope false))
-        (λ w' later v p. then_flow w' (from_create convert IsKept reach w' (place_of name scope) DataObject (λ u after. tt))
-        (λ u after x q. then_flow u (from_act convert IsKept reach u Any (write_named (place_of name scope) v) (λ z last. blind_write_named z (place_of name scope) v (clear_later w' z (later_then w' u z after last).shown v p))) (λ z last y r. normal z)))
-    runs (Alias from source at name) h w f scope due = then_flow w (P.from_found convert IsKept reach w known source scope) (λ w' later e p. P.from_created convert IsKept reach w' (place_of name scope) (AliasObject e.0) (λ u. tt))
+        (λ w' later v p. then_flow w' (from_create convert IsKept reach w' (declared_path name scope) DataObject (λ u after. tt))
+        (λ u after x q. then_flow u (from_act convert IsKept reach u Any (write_named (declared_path name scope) v) (λ z last. blind_write_named z (declared_path name scope) v (clear_later w' z (later_then w' u z after last).shown v p))) (λ z last y r. normal z)))
+    runs (Alias from source at name) h w f scope due = then_flow w (P.from_found convert IsKept reach w known source scope) (λ w' later e p. P.from_created convert IsKept reach w' (declared_path name scope) (AliasObject e.0) (λ u. tt))
     runs (External here at name type parameters) h w f scope due = normal w
     runs (Method at name flags body) h w f scope due =
-        then_flow w (from_create convert IsKept reach w (place_of name scope) (MethodObject flags) (λ u after. tt))
-        (λ w' later u p. then_flow w' (kept w' (place_of name scope) body h) (λ z last y r. normal z))
-    runs (Mutex at name level) h w f scope due = P.from_created convert IsKept reach w (place_of name scope) (MutexObject level) (λ u. tt)
-    runs (Event at name) h w f scope due = P.from_created convert IsKept reach w (place_of name scope) EventObject (λ u. tt)
+        then_flow w (from_create convert IsKept reach w (declared_path name scope) (MethodObject flags) (λ u after. tt))
+        (λ w' later u p. then_flow w' (kept w' (declared_path name scope) body h) (λ z last y r. normal z))
+    runs (Mutex at name level) h w f scope due = P.from_created convert IsKept reach w (declared_path name scope) (MutexObject level) (λ u. tt)
+    runs (Event at name) h w f scope due = P.from_created convert IsKept reach w (declared_path name scope) EventObject (λ u. tt)
     runs (Container' kind at name body) h w f scope due =
-        then_flow w (from_create convert IsKept reach w (place_of name scope) (ContainerObject kind) (λ u after. tt)) (λ w' later u p. lists body h w' (are_shown_later shown w w' later f) (place_of name scope) false)
+        then_flow w (from_create convert IsKept reach w (declared_path name scope) (ContainerObject kind) (λ u after. tt)) (λ w' later u p. lists body h w' (are_shown_later shown w w' later f) (declared_path name scope) false)
     runs (Scope here at name body) h w f scope due = then_flow w (P.from_find convert IsKept reach w known name scope) (λ w' later path p. lists body h w' (are_shown_later shown w w' later f) path false)
     runs (If test body) h w f scope due = P.from_branch convert IsKept reach w width known (runs test h.0 w f scope false) (λ w' later. lists body h.1 w' (are_shown_later shown w w' later f) scope false)
     runs (ElseIf test body) h w f scope due =
@@ -198,7 +199,7 @@ module _ (convert : Trees → Trees) (IsKept : Trees → Type 0) (reach : Reach)
     runs Break h w f scope due = P.same_flow convert IsKept reach w O.Break (λ u. tt)
     runs Continue h w f scope due = P.same_flow convert IsKept reach w O.Continue (λ u. tt)
     runs (OperationRegion at name space args) h w f scope due =
-        then_flow w (operands_of region_letters args h w f scope) (λ w' later os p. P.from_region convert IsKept reach w' width (place_of name scope) space os p)
+        then_flow w (operands_of region_letters args h w f scope) (λ w' later os p. P.from_region convert IsKept reach w' width (declared_path name scope) space os p)
     runs (Field here from region flags items) h w f scope due = then_flow w (P.from_region_at convert IsKept reach w known region scope) (λ w' later r p. P.from_units convert IsKept reach w' known (InRegion r) scope (first_unit flags) items)
     runs (IndexField here from index to register flags items) h w f scope due =
         then_flow w (P.from_register_at convert IsKept reach w known index scope)
@@ -208,7 +209,7 @@ module _ (convert : Trees → Trees) (IsKept : Trees → Type 0) (reach : Reach)
         (λ w' later r p. then_flow w' (P.from_register_at convert IsKept reach w' known bank scope)
         (λ u after b q. then_flow u (P.from_size convert IsKept reach u width known (runs value h u (are_shown_later shown w u (later_then w w' u later after) f) scope false)) (λ z last n s. P.from_units convert IsKept reach z known (InBank r b n) scope (first_unit flags) items)))
     runs (CreateField form args at name) h w f scope due =
-        then_flow w (operands_of (field_letters form) args h w f scope) (λ w' later os p. P.from_buffer_field convert IsKept reach w' width form (place_of name scope) os p)
+        then_flow w (operands_of (field_letters form) args h w f scope) (λ w' later os p. P.from_buffer_field convert IsKept reach w' width form (declared_path name scope) os p)
     runs (Item item) h w f scope due = P.same_broken convert IsKept reach w ClearFlow
     runs (Fill bytes) h w f scope due = P.same_broken convert IsKept reach w ClearFlow
     runs Misshapen h w f scope due = P.same_broken convert IsKept reach w ClearFlow

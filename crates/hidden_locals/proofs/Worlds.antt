@@ -10,7 +10,8 @@ use Rattle.acpi_state.specs.Objects.{Object, BufferFieldObject, Names}
 use Rattle.acpi_state.specs.Outcomes.{Flow, Gives, Return}
 use Rattle.acpi_state.specs.Stores.{Spot, Nowhere, DebugObject, At}
 use Rattle.acpi_state.specs.Acts.{Operand, OfValue, OfKept, OfSpot, OfNumber}
-use Rattle.hidden_locals.specs.Worlds.{World, shown_among, shown_at, shown_for, shown_here, mask, veiled, hide_frames, hidden_in, hidden_of, numbers, Clear, AreClear, ClearPlace, ClearHeld, ClearList, ClearAll, ClearOption, ClearSpot, ClearOperand, ClearOperands, ClearFlow, ClearFrames, ClearStore, ClearValues, ClearSource, ClearObject, ClearNames, StaysShown, Later, begun_in, ended_in, AreBegun, Shows}
+use Rattle.hidden_locals.specs.Worlds.{World, shown_among, shown_at, shown_for, shown_here, mask, veiled, hide_frames, hidden_in, hidden_of, numbers, Clear, AreClear, ClearPlace, ClearHeld, ClearList, ClearAll, ClearOption}
+use Rattle.hidden_locals.specs.Worlds.{ClearSpot, ClearOperand, ClearOperands, ClearFlow, ClearFrames, ClearStore, ClearValues, ClearSource, ClearObject, ClearNames, StaysShown, Later, begun_in, ended_in, AreBegun, Shows}
 
 pub same_world : (w : World) → Later w w
 same_world w = record { shown = record { longer = omega arith; by = λ n i lt. refl }; running = refl }

@@ -136,8 +136,8 @@ fn give_all(backends: &mut Vec<Box<dyn Backend>>, table: &[Piece]) -> Result<(),
 /// Makes the text of each output over the pieces of a table, whatever it held before. After an error only `clear_all`
 /// leads to a known state.
 pub fn render_all(backends: &mut Vec<Box<dyn Backend>>, table: &[Piece]) -> Result<(), AllocError>
-    ensures rendered { OnOk result (Each (λ b b2. (kind_of b2 ≡ kind_of b) × (pieces b2 ≡ table.now) × (finished b2 ≡ true)) backends.old.items
-        backends.new.items) }
+    ensures rendered { OnOk result
+        (Each (λ b b2. (kind_of b2 ≡ kind_of b) × (pieces b2 ≡ table.now) × (finished b2 ≡ true)) backends.old.items backends.new.items) }
     ensures done { OnOk result (All (λ b. finished b ≡ true) backends.new.items) }
     ensures shared { OnOk result (All (λ b. pieces b ≡ table.now) backends.new.items) }
     ensures kinds { Each (λ b b2. kind_of b2 ≡ kind_of b) backends.old.items backends.new.items }
@@ -174,7 +174,8 @@ fn text_of_box(backend: &Box<dyn Backend>) -> &[u8]
 /// The text of the first output of a kind, in bytes; none where there is no output of the kind.
 pub fn text_of_kind(backends: &Vec<Box<dyn Backend>>, kind: Kind) -> Option<&[u8]>
     requires { All (λ b. finished b ≡ true) backends.now.items }
-    ensures text { IfSome result (λ text. FirstOfKind (λ b. kind_of b) kind (λ b. text.now ≡ rendering kind (pieces b)) backends.now.items) }
+    ensures text { IfSome result
+        (λ text. FirstOfKind (λ b. kind_of b) kind (λ b. text.now ≡ rendering kind (pieces b)) backends.now.items) }
     ensures shared { (all : List SpecPiece) → All (λ b. pieces b ≡ all) backends.now.items →
         IfSome result (λ text. text.now ≡ rendering kind all) }
     ensures none { IfNone result (All (λ b. kind_of b ≢ kind) backends.now.items) }

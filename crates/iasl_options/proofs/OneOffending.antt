@@ -8,7 +8,8 @@ use Rattle.iasl_options.specs.Asking.{Asked, asked_by}
 use Rattle.iasl_options.specs.Shown.{Answers}
 use Rattle.iasl_options.specs.CommandLine.{IsCommandLine, HasHope, IsHopeless, IsOffending, hopeless, ended}
 use Rattle.iasl_options.proofs.CommandLines.{line_from}
-use Rattle.iasl_options.proofs.Offending.{offending}
+use Rattle.iasl_options.proofs.Offending.{offending, answer_good, answer_every, answer_bad}
+use Rattle.iasl_options.proofs.Utf8.{answer_texts}
 
 -- there is hope before the word that spoils words
 module _ {R : Type 0} (IsLine : List (List ℕ) → R → Type 0) where
@@ -55,3 +56,5 @@ told words number h = by_result (asked_by words) refl
 
 pub answer_told : (words : List (List ℕ)) (answer : Result Options WordsStop) → Answers answer (asked_by words) → (word : ℕ) → IsOffending IsCommandLine words word → Answers answer (Err word)
 answer_told words answer h word spoils = subst (Answers answer) (told words word spoils) h
+
+pub ruleset answer_rules = (answer_texts, answer_good, answer_every, answer_bad, answer_told)

@@ -274,3 +274,5 @@ answer_bad words (Err stop.Memory) h = tt
 
 pub answer_told : (words : List (List ℕ)) (answer : Result code.Task WordsStop) → TaskAnswers answer (task_by words) → (word : ℕ) → IsOffending IsTask words word → TaskAnswers answer (Err word)
 answer_told words answer h word is = subst (TaskAnswers answer) (told words word is) h
+
+pub ruleset answer_rules = (answer_good, answer_every, answer_bad, answer_told)

@@ -25,7 +25,7 @@ fn read(alloc: Global, words: &[String]) -> Result<Options, WordsStop>
 
 /// What the words of a call ask for, or the word that spoils them. The options are: `-p P`, `-I DIR`, `-D NAME` or
 /// `-D NAME=TEXT`, `-P`, `-Pn`, `-vi` and `-we`, and one file, in any order (docs/OPTIONS.md).
-#[tactic(auto, using(crate::proofs::Utf8::answer_texts, crate::proofs::Offending::answer_good, crate::proofs::Offending::answer_every, crate::proofs::Offending::answer_bad, crate::proofs::OneOffending::answer_told))]
+#[tactic(auto, using(crate::proofs::OneOffending::answer_rules))]
 pub fn options(alloc: Global, words: &[String]) -> Result<Options, WordsStop>
     // What is answered is asked for by the words, which are a command line.
     ensures good { IfOk result (λ options. IsCommandLine (map string_bytes words.now) (asked_of options)) }

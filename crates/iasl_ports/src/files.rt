@@ -60,8 +60,8 @@ pub trait Files {
         ensures size { IfOk result (λ bytes. length bytes.items ≤ most_bytes) }
         ensures refused { IfErr result (λ fault. ForSome (contents self.old) (λ told. RefusedAt fault (find_file told name.now))) }
         ensures faults { OnOk result (faults self.new ≡ faults self.old) }
-        ensures counts { IfErr result (λ fault. RefusedCounts fault (faults self.old) (faults self.new) (absents self.old) (absents self.new)
-            (larges self.old) (larges self.new)) }
+        ensures counts { IfErr result (λ fault. RefusedCounts fault (faults self.old) (faults self.new) (absents self.old)
+            (absents self.new) (larges self.old) (larges self.new)) }
         ensures later_faults { faults self.old ≤ faults self.new }
         ensures later_absents { absents self.old ≤ absents self.new }
         ensures later_larges { larges self.old ≤ larges self.new };

@@ -306,7 +306,8 @@ impl Outputs for MemoryOutputs {
         ensures named { IsErrOf result PutFault.Failed ↔ IsToFail self.old.calls }
         ensures counted { CountsCall self.old.calls self.new.calls }
         ensures written { OnOk result (Gains (Some (put_files self.old)) (Some (put_files self.new)) ((name.now, bytes.now) ∷ [])) }
-        ensures refused { IfErr result (λ fault. PutRefused fault (Some (put_files self.old)) (Some (put_files self.new)) name.now bytes.now) }
+        ensures refused { IfErr result
+            (λ fault. PutRefused fault (Some (put_files self.old)) (Some (put_files self.new)) name.now bytes.now) }
         ensures faults { OnOk result (self.new.calls.faults ≡ self.old.calls.faults) }
         ensures counts { IfErr result (λ fault. PutCounts fault (self.old.calls.faults) (self.new.calls.faults)) }
         ensures later { self.old.calls.faults ≤ self.new.calls.faults }
@@ -380,7 +381,8 @@ impl Sink for MemorySink {
     ghost faults = { λ sink. sink.calls.faults };
 
     fn write(&mut self, bytes: &[u8]) -> Result<usize, SinkFault>
-        ensures named { IsErr result ↔ (IsToFail self.old.calls ⊎ ((length (told_bytes self.old) ≡ room_of self.old) × (0 < length bytes.now))) }
+        ensures named { IsErr result
+            ↔ (IsToFail self.old.calls ⊎ ((length (told_bytes self.old) ≡ room_of self.old) × (0 < length bytes.now))) }
         ensures counted { CountsCall self.old.calls self.new.calls }
         ensures room { room_of self.new ≡ room_of self.old }
         ensures some { IfOk result (λ count. Gains (Some (told_bytes self.old)) (Some (told_bytes self.new)) (take count bytes.now)) }

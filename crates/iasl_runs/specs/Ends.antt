@@ -114,8 +114,8 @@ pub record Delivers (fault memory : List ℕ) (due : Due) (status : ℕ) (put no
   where
     -- the status that is due; 3 where a count rose, or 4
     pub is : (status ≡ due.status) ⊎ (((status ≡ 3) × (Rose put.faults now_put.faults ⊎ Rose told.faults now_told.faults)) ⊎ (status ≡ 4))
-    pub outs : OutsGained (Option.Some (answer_of due)) status (Rose put.faults now_put.faults) (Quiet put.faults now_put.faults) put.written
-        now_put.written
+    pub outs : OutsGained (Option.Some (answer_of due)) status (Rose put.faults now_put.faults)
+        (Quiet put.faults now_put.faults) put.written now_put.written
     pub console : ConsoleGained fault (Option.Some (answer_of due)) status told.told now_told.told
     pub fault_told : FaultTold fault memory status (Quiet told.faults now_told.faults) told.told now_told.told
     -- 0, 1 and 2 come only where no count rose, and no count falls

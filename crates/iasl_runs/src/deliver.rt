@@ -73,7 +73,8 @@ pub fn deliver<O: Outputs, C: Sink>(
     // What of the text was written.
     ensures all_text { OnOk result (Gains (C.told console.old) (C.told console.new) due.now.text) }
     ensures some_text { OnErr result ((n : ℕ) × Gains (C.told console.old) (C.told console.new) (take n due.now.text)) }
-    ensures no_text { OnErr result (Quiet (C.faults console.old) (C.faults console.new) → Gains (C.told console.old) (C.told console.new) []) }
+    ensures no_text { OnErr result (Quiet (C.faults console.old) (C.faults console.new)
+        → Gains (C.told console.old) (C.told console.new) []) }
     ensures no_text_yet { IsErrOf result stops.Memory → Gains (C.told console.old) (C.told console.new) [] }
 {
     put_all(outs, &due.files)?;

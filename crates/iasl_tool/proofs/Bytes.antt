@@ -4,7 +4,7 @@ use Rattle.std.proofs.lemmas.List.{take_more}
 use Rattle.iasl_messages.specs.declared.place.Piece.{Piece}
 use Rattle.iasl_backends.specs.Table.{table_bytes}
 use Rattle.iasl_backends.proofs.Steps.{table_bytes_push}
-use Rattle.aml_writer.specs.Pieces.{joined_pieces}
+use Rattle.aml_sizes.specs.Pieces.{joined_pieces}
 use Rattle.data_tables.specs.Compiling.{joined}
 
 pub as_joined_pieces : (pieces : List Piece) → table_bytes pieces ≡ joined_pieces pieces

@@ -2,8 +2,9 @@
 use Rattle.std.proofs.lemmas.List.{append-nil}
 use Rattle.std.proofs.Common.{◌≡◌, ℕ, ◌≤◌, Bool, true, false, refl, subst, ◌⊎◌, inl, inr, Err, List, [], ◌∷◌, length, Option, Some, None, Result, Ok, ap, sym, ◌∙◌, arith}
 use Rattle.std.specs.Prelude.{◌<◌, ◌^◌, ◌&&◌, cond, ◌++◌}
-use Rattle.iasl_ports.specs.Gained.{Named, Gains}
+use Rattle.iasl_ports.specs.Gained.{Named}
 use Rattle.iasl_ports.specs.Delivery.{Answer, due_of, status_of}
+use Rattle.iasl_runs.specs.Ends.{World}
 use Rattle.iasl_messages.specs.declared.place.Line.{Line}
 use Rattle.iasl_messages.specs.declared.message.Message.{Message}
 use Rattle.iasl_messages.specs.Console.{table_line}
@@ -48,6 +49,7 @@ use Rattle.iasl_tool.specs.Sources.{is_data_source, data_answer, of_data, of_sou
 use Rattle.table_outputs.specs.Files.{name_in_use}
 use Rattle.table_outputs.specs.Decision.{only_by, asks_for_text, wants_template, asks_for_template}
 use Rattle.iasl_tool.specs.Due.{style_of, lines_of_tables, files_of_tables, unless_in_use, made_files, refusal, made_or_in_use, has_warning, answer_to_text, answer_to_compiled, answer_to_preprocessed, answer_to_file, answer_to_task, answer_for}
+use Rattle.iasl_tool.specs.Outside.{Puts}
 use Rattle.iasl_tool.specs.Headline.{Request, ComeFrom, a_file, devices, more_of, generated_request, table_of, table_for, data_file_of, further_of, further_data, files_of, source_files, data_files_of, EachDoes, LetsPass, NamesLines, NamesSource, NamesData, ReadsBack, PutsFaithfulTables, PutsDataTable, AreItsTables, AreItsFiles, WritesItsTables, WritesItsDataTable}
 use Rattle.iasl_tool.proofs.Bytes.{as_joined_pieces, as_joined}
 use Rattle.iasl_tool.proofs.Sizes.{come_sizes}
@@ -334,33 +336,33 @@ module _ (words : List (List ℕ)) (told : List Named) where
       by_kind (record { request = generated_request; named = record { files = []; lines = lines; notes = []; come = devices count (task_from words (Generates count) ew) refl refl refl refl } }) (is_data_source false lines) refl h
 
 -- status 0 comes, where preprocessed text alone is not asked for, only of a source, whose tables are then what was gained
-pub writes_its_tables : (words : List (List ℕ)) (told : List Named) (old new : Option (List Named)) → asks_for_text words ≡ false → asks_for_template words ≡ false → status_of (answer_for words told) ≡ 0 → Gains old new (due_of (answer_for words told)) → WritesItsTables words told old new ⊎ WritesItsDataTable words told old new
+pub writes_its_tables : (words : List (List ℕ)) (told : List Named) (old new : World) → asks_for_text words ≡ false → asks_for_template words ≡ false → status_of (answer_for words told) ≡ 0 → Puts old new (due_of (answer_for words told)) → WritesItsTables words told old new ⊎ WritesItsDataTable words told old new
 writes_its_tables words told old new z t h gained = by (by_words words told (task_by words) refl z t h)
   where
     by : Found words told → WritesItsTables words told old new ⊎ WritesItsDataTable words told old new
     by (a_source request items names) =
         let puts : PutsFaithfulTables words told request names.named.lines items = puts_faithful_tables words told request items names in
-        inl (record { request = request; items = items; names = names; tables = subst (Gains old new) puts.due gained; does = puts.does })
+        inl (record { request = request; items = items; names = names; tables = subst (Puts old new) puts.due gained; does = puts.does })
     by (a_data_table request table names) =
         let puts : PutsDataTable words told request table names.named.lines = puts_data_table words told request table names in
-        inr (record { request = request; table = table; names = names; gained = subst (Gains old new) puts.due gained; reads = puts.reads; joined_pieces = puts.joined_pieces })
+        inr (record { request = request; table = table; names = names; gained = subst (Puts old new) puts.due gained; reads = puts.reads; joined_pieces = puts.joined_pieces })
 
 -- each source that the words name is put
-pub source_is_put : (words : List (List ℕ)) (told : List Named) (request : Request) (items : List Raw) (result : ℕ) (old new : Option (List Named)) (names : NamesSource words told request items) → (result ≡ status_of (answer_for words told)) ⊎ (result ≡ 4) → (result ≤ 2 → Gains old new (due_of (answer_for words told)))
-    → ((result ≡ 0) × PutsFaithfulTables words told request names.named.lines items × Gains old new (source_files request names.named.lines items)) ⊎ (result ≡ 4)
+pub source_is_put : (words : List (List ℕ)) (told : List Named) (request : Request) (items : List Raw) (result : ℕ) (old new : World) (names : NamesSource words told request items) → (result ≡ status_of (answer_for words told)) ⊎ (result ≡ 4) → (result ≤ 2 → Puts old new (due_of (answer_for words told)))
+    → ((result ≡ 0) × PutsFaithfulTables words told request names.named.lines items × Puts old new (source_files request names.named.lines items)) ⊎ (result ≡ 4)
 source_is_put words told request items result old new names (inl e) gained =
     let puts : PutsFaithfulTables words told request names.named.lines items = puts_faithful_tables words told request items names in
     let zero : result ≡ 0 = e ∙ puts.status in
-    inl (zero, puts, subst (Gains old new) puts.due (gained (omega (arith, zero))))
+    inl (zero, puts, subst (Puts old new) puts.due (gained (omega (arith, zero))))
 source_is_put words told request items result old new names (inr e) gained = inr e
 
 -- and each data table
-pub data_is_put : (words : List (List ℕ)) (told : List Named) (request : Request) (table : DataTable) (result : ℕ) (old new : Option (List Named)) (names : NamesData words told request table) → (result ≡ status_of (answer_for words told)) ⊎ (result ≡ 4) → (result ≤ 2 → Gains old new (due_of (answer_for words told)))
-    → ((result ≡ 0) × PutsDataTable words told request table names.named.lines × Gains old new (data_files_of request table)) ⊎ (result ≡ 4)
+pub data_is_put : (words : List (List ℕ)) (told : List Named) (request : Request) (table : DataTable) (result : ℕ) (old new : World) (names : NamesData words told request table) → (result ≡ status_of (answer_for words told)) ⊎ (result ≡ 4) → (result ≤ 2 → Puts old new (due_of (answer_for words told)))
+    → ((result ≡ 0) × PutsDataTable words told request table names.named.lines × Puts old new (data_files_of request table)) ⊎ (result ≡ 4)
 data_is_put words told request table result old new names (inl e) gained =
     let puts : PutsDataTable words told request table names.named.lines = puts_data_table words told request table names in
     let zero : result ≡ 0 = e ∙ puts.status in
-    inl (zero, puts, subst (Gains old new) puts.due (gained (omega (arith, zero))))
+    inl (zero, puts, subst (Puts old new) puts.due (gained (omega (arith, zero))))
 data_is_put words told request table result old new names (inr e) gained = inr e
 
 -- what is due of a status other than 0 is nothing

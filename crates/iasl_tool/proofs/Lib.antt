@@ -11,3 +11,4 @@ pub mod Pieces
 pub mod Fates
 pub mod Refusals
 mod Outputs
+mod Calls

@@ -1,7 +1,7 @@
 -- What is refused, by relations, is what has status 1.
 use Rattle.std.proofs.Common.{◌≡◌, ℕ, ◌<◌, ◌≤◌, ◌⊎◌, inl, inr, Bool, true, false, List, [], ◌∷◌, ◌++◌, length, drop, suc, Option, Some, None, Result, Ok, Err, refl, sym, ap, ◌∙◌, subst, arith}
 use Rattle.std.specs.Prelude.{nat_le, ◌&&◌, cond, if◌then◌else◌}
-use Rattle.iasl_ports.specs.Gained.{Named, Gains}
+use Rattle.iasl_ports.specs.Gained.{Named}
 use Rattle.iasl_ports.specs.Delivery.{Answer, status_of, text_of}
 use Rattle.iasl_messages.specs.declared.place.Line.{Line}
 use Rattle.iasl_messages.specs.declared.message.Message.{Message}
@@ -19,7 +19,7 @@ use Rattle.asl_parser.specs.Marks.{marks}
 use Rattle.asl_parser.specs.Parse.{ParseOutcome, outcome, sunk, tall}
 use Rattle.asl_parser.specs.Written.{writtens}
 use Rattle.asl_shape.specs.Forms.{source_errors, alone, block_place}
-use Rattle.aml_writer.specs.Written.{most_table_bytes}
+use Rattle.aml_sizes.specs.TableSizes.{most_table_bytes}
 use Rattle.data_tables.specs.Compiling.{Answer as DataAnswer}
 use Rattle.iasl_options.specs.Asking.{Asked}
 use Rattle.iasl_options.specs.CommandLine.{IsCommandLine}
@@ -37,11 +37,13 @@ use Rattle.block_outcomes.specs.declared.outcome.Table.{Table}
 use Rattle.block_outcomes.specs.Joined.{first_told, if_class, of_class, tables_among, unless_refused, unless_noted}
 use Rattle.asl_tables.specs.declared.compile.Style.{Style}
 use Rattle.asl_tables.specs.Syntax.{not_source, too_deep}
-use Rattle.asl_tables.specs.Compiled.{unlowered_in, own_in, all_noted, told_in, others_in, of_lines, of_items, outcome_in, outcomes_in, tables_of, unless_wrong, with_others, of_outcome, of_tokens, written_in, cut_in, too_long, EachWithin}
+use Rattle.asl_tables.specs.Compiled.{unlowered_in, own_in, all_noted, told_in, others_in, of_lines, of_items, outcome_in, outcomes_in, tables_of, unless_wrong, of_outcome, of_tokens, written_in, cut_in, too_long, EachWithin}
+use Rattle.block_checks.specs.Told.{with_others}
 use Rattle.asl_tables.proofs.Sources.{made_of, made_from}
 use Rattle.table_outputs.specs.Files.{name_in_use}
 use Rattle.iasl_tool.specs.Sources.{is_data_source, data_answer, of_data, of_source}
 use Rattle.iasl_tool.specs.Due.{style_of, lines_of_tables, files_of_tables, unless_in_use, made_files, refusal, made_or_in_use, has_warning, text_name, text_of_lines, answer_to_text, answer_to_compiled, answer_to_preprocessed, answer_to_file, answer_to_task, answer_for, fault_text, memory_text}
+use Rattle.iasl_tool.specs.Outside.{Tells}
 use Rattle.iasl_tool.specs.Headline.{Request, a_file, devices, more_of, generated_request, NamesLines}
 use Rattle.iasl_tool.specs.Refusals.{errors_alone, class_errors, AreItsErrors, of_form, of_names, of_kinds, of_lowering, of_length, IsSpelled, AreRefused, no_tokens, no_source, nested, wrong, RefusesNotes, IsRefused, stopped, text_warned, source_refused, source_warned, data_refused, data_warned, refusal_text, TellsRefusal}
 use Rattle.iasl_tool.proofs.Readings.{spelled_is_outcome}
@@ -336,7 +338,7 @@ module _ (words : List (List ℕ)) (told : List Named) where
 
 module _ (words : List (List ℕ)) (status : ℕ) (old new : World) (told : List Named) (end : Ends (answer_for words) fault_text memory_text status old new) (is : old.files.contents ≡ Some told) where
   -- 1 tells a refusal
-  pub refuses : status ≡ 1 → TellsRefusal words told old.console.told new.console.told
+  pub refuses : status ≡ 1 → TellsRefusal words told old new
   refuses one =
       let low : status ≤ 2 = omega (arith, one) in
       let r = by_words words told (task_by words) refl (end.settled low told is ∙ one) in
@@ -345,17 +347,17 @@ module _ (words : List (List ℕ)) (status : ℕ) (old new : World) (told : List
         files = r.files;
         messages = r.messages;
         refused = r.refused;
-        text = subst (λ (o : Option Answer). Gains old.console.told new.console.told (text_of o)) (refused_answer words told r.request r.files r.messages r.refused) ((end.console told is).ended low);
+        text = subst (λ (o : Option Answer). Tells old new (text_of o)) (refused_answer words told r.request r.files r.messages r.refused) ((end.console told is).ended low);
       }
 
   by_end : (request : Request) (files : List (List ℕ)) (messages : List Message) → answer_for words told ≡ Some (refusal request.asked.switches.brief files messages) → (status ≡ status_of (answer_for words told)) ⊎ (status ≡ 4)
-      → ((status ≡ 1) × Gains old.console.told new.console.told (refusal_text request files messages)) ⊎ (status ≡ 4)
+      → ((status ≡ 1) × Tells old new (refusal_text request files messages)) ⊎ (status ≡ 4)
   by_end request files messages answer (inl e) =
       let one : status ≡ 1 = e ∙ ap status_of answer in
-      inl (one, subst (λ (o : Option Answer). Gains old.console.told new.console.told (text_of o)) answer ((end.console told is).ended (omega (arith, one))))
+      inl (one, subst (λ (o : Option Answer). Tells old new (text_of o)) answer ((end.console told is).ended (omega (arith, one))))
   by_end request files messages answer (inr e) = inr e
 
   -- and each refusal is told
   pub complete_refusal : (request : Request) (files : List (List ℕ)) (messages : List Message) → IsRefused words told request files messages → IsQuiet old new
-      → ((status ≡ 1) × Gains old.console.told new.console.told (refusal_text request files messages)) ⊎ (status ≡ 4)
+      → ((status ≡ 1) × Tells old new (refusal_text request files messages)) ⊎ (status ≡ 4)
   complete_refusal request files messages h quiet = by_end request files messages (refused_answer words told request files messages h) (end.quiet told is quiet)

@@ -1,7 +1,8 @@
 -- What a call does with a source that is read.
-use Rattle.std.specs.Prelude.{◌≡◌, ◌⊎◌, ℕ, Bool, true, false, List, [], ◌∷◌, ◌++◌, codes, All, Option, None, Some, Ok}
-use Rattle.iasl_ports.specs.Gained.{Named, Gains}
+use Rattle.std.specs.Prelude.{◌≡◌, ◌⊎◌, ℕ, Bool, true, false, List, [], ◌∷◌, ◌++◌, codes, All, None, Some, Ok}
+use Rattle.iasl_ports.specs.Gained.{Named}
 use Rattle.iasl_ports.specs.Delivery.{due_of, status_of}
+use Rattle.iasl_runs.specs.Ends.{World}
 use Rattle.iasl_messages.specs.declared.place.Line.{Line}
 use Rattle.iasl_messages.specs.declared.place.Piece.{Piece}
 use Rattle.iasl_messages.specs.declared.message.Message.{Message}
@@ -28,11 +29,12 @@ use Rattle.iasl_options.specs.CommandLine.{IsCommandLine}
 use Rattle.iasl_options.specs.Task.{Generates, IsTask, generated_settings}
 use Rattle.generated_lines.specs.Generated.{generated_lines}
 use Rattle.iasl_messages.specs.Console.{devices_line}
-use Rattle.program_shapes.specs.Sources.{IsRightSource, IsTableOf}
+use Rattle.program_shapes.specs.Sources.{IsRightSource, IsTableOfSource}
 use Rattle.asl_tables.specs.Compiled.{own_in, all_noted, written_in, cut_in, EachWithin}
 use Rattle.table_outputs.specs.Files.{table_name, further_files, name_in_use}
 use Rattle.iasl_tool.specs.Sources.{is_data_source, data_answer}
 use Rattle.iasl_tool.specs.Due.{style_of, answer_for}
+use Rattle.iasl_tool.specs.Outside.{Puts}
 
 -- what good words ask for, and the file that they name
 pub record Request : Type 0 where
@@ -85,7 +87,7 @@ last_its_pieces request lines (item ∷ (other ∷ others)) = last_its_pieces re
 -- The table of a block has the header that the block states, and every session over its bytes is the block's. Its
 -- further outputs are of pieces that are its own bytes, one piece behind another.
 pub record IsBlocksTable (request : Request) (lines : List Line) (items : List Raw) : Type 0 where
-  pub does : IsTableOf items (table_for request items)
+  pub does : IsTableOfSource items (table_for request items)
   pub joined_pieces : table_bytes (its_pieces request lines items) ≡ table_for request items
 
 -- so do those of all of them
@@ -101,8 +103,9 @@ data_files_of request table = (data_file_of request, joined table.pieces) ∷ fu
 abbrev pub generated_request : Request
 generated_request = record { asked = generated_settings; file = codes "generated" }
 
--- Where lines come from. The words are a command line that asks for a compilation of this file, and they are its lines, with those of its
--- includes; or the words ask for so many devices, and they are the source of these, for which no file is fetched.
+-- Where lines come from. The words are a command line that asks for a compilation of this file, and they are its lines,
+-- with those of its includes; or the words ask for so many devices, and they are the source of these, for which no file
+-- is fetched.
 pub data ComeFrom (words : List (List ℕ)) (told : List Named) (request : Request) (files : List (List ℕ)) (lines : List Line)
     (notes : List Message) : Type 0 where
   a_file : IsCommandLine words request.asked → request.asked.file ≡ Some request.file → request.asked.only ≡ false
@@ -128,11 +131,11 @@ pub record NamesLines (words : List (List ℕ)) (told : List Named) (request : R
 abbrev pub LetsPass : Asked → List Message → Type 0
 LetsPass asked notes = asked.switches.strict ≡ true → All (λ note. severity_of note.number ≡ Warning → ⊥) notes
 
--- The words name lines (`ComeFrom`), which are no data table and are
--- cut into tokens that spell this source, nowhere too deep; nothing is wrong with it, each of its items being a block
--- with a namespace of its own, of none are too many copies made, and none of its tables is too long; none of its notes, those on its literals among them,
--- is a warning, where warnings refuse a source; and no name of the files of its tables is that of a file that was
--- fetched, or of another of them.
+-- The words name lines (`ComeFrom`), which are no data table and are cut into tokens that spell this source, nowhere too
+-- deep; nothing is wrong with it, each of its items being a block with a namespace of its own, of none are too many
+-- copies made, and none of its tables is too long; none of its notes, those on its literals among them, is a warning,
+-- where warnings refuse a source; and no name of the files of its tables is that of a file that was fetched, or of
+-- another of them.
 pub record NamesSource (words : List (List ℕ)) (told : List Named) (request : Request) (items : List Raw) : Type 0 where
   pub named : NamesLines words told request
   pub tokens : List Token
@@ -146,9 +149,9 @@ pub record NamesSource (words : List (List ℕ)) (told : List Named) (request : 
   pub notes_pass : LetsPass request.asked (named.notes ++ all_noted items)
   pub names_are_free : name_in_use named.files (source_files request named.lines items) ≡ None
 
--- The words name lines (`ComeFrom`), which are a data table in whose text there is no fault, with
--- this table; none of its notes and the table's is a warning, where warnings refuse a source; and no name of the table's files is that of
--- a file that was fetched, or of another of them.
+-- The words name lines (`ComeFrom`), which are a data table in whose text there is no fault, with this table; none of
+-- its notes and the table's is a warning, where warnings refuse a source; and no name of the table's files is that of a
+-- file that was fetched, or of another of them.
 pub record NamesData (words : List (List ℕ)) (told : List Named) (request : Request) (table : DataTable) : Type 0 where
   pub named : NamesLines words told request
   pub is_data : is_data_source (is_generic request) named.lines ≡ true
@@ -158,8 +161,8 @@ pub record NamesData (words : List (List ℕ)) (told : List Named) (request : Re
 
 -- The call puts the files of the tables of a source of these lines, and nothing else. Each table has its block's header
 -- and does what its block says.
-pub record PutsFaithfulTables (words : List (List ℕ)) (told : List Named) (request : Request) (lines : List Line) (items : List Raw) : Type
-    0 where
+pub record PutsFaithfulTables (words : List (List ℕ)) (told : List Named) (request : Request) (lines : List Line)
+    (items : List Raw) : Type 0 where
   pub status : status_of (answer_for words told) ≡ 0
   pub due : due_of (answer_for words told) ≡ source_files request lines items
   pub does : EachDoes request lines items
@@ -199,8 +202,8 @@ pub record AreItsTables (words : List (List ℕ)) (told : List Named) (files : L
   pub are : files ≡ source_files request names.named.lines items
   pub does : EachDoes request names.named.lines items
 
--- A file is the data table whose text the words name: its bytes read as the values that the text writes. The files that follow it are its
--- further outputs, which are of pieces that are its own bytes.
+-- A file is the data table whose text the words name: its bytes read as the values that the text writes. The files that
+-- follow it are its further outputs, which are of pieces that are its own bytes.
 pub record IsItsDataTable (words : List (List ℕ)) (told : List Named) (file : Named) (further : List Named) : Type 0 where
   pub request : Request
   pub table : DataTable
@@ -219,19 +222,20 @@ AreItsFiles words told (file ∷ further) = AreItsTables words told (file ∷ fu
 -- The words name an ASL source, and the outputs gained the files of its tables and nothing else: for each block in turn
 -- its table, which has the header that the block states, and over whose bytes every session is the block's, and the
 -- table's further outputs.
-pub record WritesItsTables (words : List (List ℕ)) (told : List Named) (old new : Option (List Named)) : Type 0 where
+pub record WritesItsTables (words : List (List ℕ)) (told : List Named) (before after : World) : Type 0 where
   pub request : Request
   pub items : List Raw
   pub names : NamesSource words told request items
-  pub tables : Gains old new (source_files request names.named.lines items)
+  pub tables : Puts before after (source_files request names.named.lines items)
   pub does : EachDoes request names.named.lines items
 
--- The words name the text of a data table, and the outputs gained its files and nothing else. The bytes of the first, the table, read as
--- the values that the text writes; the others are its further outputs, which are of pieces that are the table's own bytes.
-pub record WritesItsDataTable (words : List (List ℕ)) (told : List Named) (old new : Option (List Named)) : Type 0 where
+-- The words name the text of a data table, and the outputs gained its files and nothing else. The bytes of the first,
+-- the table, read as the values that the text writes; the others are its further outputs, which are of pieces that are
+-- the table's own bytes.
+pub record WritesItsDataTable (words : List (List ℕ)) (told : List Named) (before after : World) : Type 0 where
   pub request : Request
   pub table : DataTable
   pub names : NamesData words told request table
-  pub gained : Gains old new ((data_file_of request, joined table.pieces) ∷ further_data request table)
+  pub gained : Puts before after (data_files_of request table)
   pub reads : ReadsBack (is_generic request) names.named.lines (joined table.pieces)
   pub joined_pieces : table_bytes table.pieces ≡ joined table.pieces

@@ -1,5 +1,7 @@
 pub mod Sources
 pub mod Due
 pub mod Outputs
+pub mod Outside
 pub mod Headline
 pub mod Refusals
+pub mod Calls

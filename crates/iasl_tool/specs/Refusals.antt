@@ -1,7 +1,8 @@
 -- What is refused, in relations: why status 1 comes, and what is told then.
-use Rattle.std.specs.Prelude.{◌≡◌, ℕ, nat_le, true, false, if◌then◌else◌, List, [], ◌∷◌, ◌++◌, length, Option, Some, Ok, Err}
+use Rattle.std.specs.Prelude.{◌≡◌, ℕ, nat_le, true, false, if◌then◌else◌, List, [], ◌∷◌, ◌++◌, length, Some, Ok, Err}
 use Rattle.std.specs.List.{flat_map}
-use Rattle.iasl_ports.specs.Gained.{Named, Gains}
+use Rattle.iasl_ports.specs.Gained.{Named}
+use Rattle.iasl_runs.specs.Ends.{World}
 use Rattle.iasl_messages.specs.declared.place.Line.{Line}
 use Rattle.iasl_messages.specs.declared.message.Message.{Message}
 use Rattle.asl_preprocess.specs.Preprocess.{Given, Stopped, preprocessed}
@@ -20,16 +21,18 @@ use Rattle.asl_shape.specs.Forms.{source_errors, alone, block_place}
 use Rattle.block_outcomes.specs.declared.outcome.Class.{Class}
 use Rattle.block_outcomes.specs.declared.outcome.Class.TheVariants as class
 use Rattle.block_outcomes.specs.Joined.{first_told, if_class}
-use Rattle.aml_writer.specs.Written.{most_table_bytes}
+use Rattle.aml_sizes.specs.TableSizes.{most_table_bytes}
 use Rattle.data_tables.specs.declared.compiled.Compiled.{Compiled as DataTable}
 use Rattle.iasl_options.specs.Asking.{Asked}
 use Rattle.iasl_options.specs.CommandLine.{IsCommandLine}
 use Rattle.program_shapes.specs.Sources.{IsRightSource}
 use Rattle.asl_tables.specs.declared.compile.Style.{Style}
 use Rattle.asl_tables.specs.Syntax.{not_source, too_deep}
-use Rattle.asl_tables.specs.Compiled.{all_noted, written_in, told_in, others_in, with_others, unlowered_in, too_long, EachWithin}
+use Rattle.asl_tables.specs.Compiled.{all_noted, written_in, told_in, others_in, unlowered_in, too_long, EachWithin}
+use Rattle.block_checks.specs.Told.{with_others}
 use Rattle.iasl_tool.specs.Sources.{is_data_source, data_answer}
 use Rattle.iasl_tool.specs.Due.{style_of, has_warning, refusal}
+use Rattle.iasl_tool.specs.Outside.{Tells}
 use Rattle.iasl_tool.specs.Headline.{Request, NamesLines, is_generic}
 
 -- its table, if that is too long
@@ -39,7 +42,8 @@ length_wrong style item = if nat_le (length (written_in style (alone item))) mos
 
 -- All that is wrong with a block that is read alone, of the first class of errors that has some in it: its names, or
 -- behind what is wrong with the kinds of its objects its statements, fields, accesses, arguments, lists and Cases;
--- what of it cannot be lowered, Switches for which too few Locals are free and too many copies; or that its table is too long.
+-- what of it cannot be lowered, Switches for which too few Locals are free and too many copies; or that its table is
+-- too long.
 abbrev pub errors_alone : Style → Raw → List Message
 errors_alone style item = first_told (with_others (told_in (alone item)) (others_in (alone item)))
     (first_told (unlowered_in (alone item)) (length_wrong style item))
@@ -119,9 +123,9 @@ abbrev pub refusal_text : Request → List (List ℕ) → List Message → List 
 refusal_text request files messages = (refusal request.asked.switches.brief files messages).text
 
 -- the words name what is refused, and the console gained what is told of that
-pub record TellsRefusal (words : List (List ℕ)) (told : List Named) (old new : Option (List ℕ)) : Type 0 where
+pub record TellsRefusal (words : List (List ℕ)) (told : List Named) (before after : World) : Type 0 where
   pub request : Request
   pub files : List (List ℕ)
   pub messages : List Message
   pub refused : IsRefused words told request files messages
-  pub text : Gains old new (refusal_text request files messages)
+  pub text : Tells before after (refusal_text request files messages)

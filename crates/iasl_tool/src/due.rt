@@ -412,8 +412,8 @@ pub(crate) fn make_compiled(
     requires main { 1 ≤ length lines.now.files }
     requires lines { All (IsGoodLine (length lines.now.files)) lines.now.list }
     requires notes { AreWithin (length lines.now.files) notes }
-    ensures due { IfOk result (λ decision. end_of decision ≡ answer_to_compiled (asked_of options.now) options.now.file lines.now.files notes
-        more.now (of_source options.now.switches.generic (style_by (asked_of options.now)) lines.now.list)) }
+    ensures due { IfOk result (λ decision. end_of decision ≡ answer_to_compiled (asked_of options.now) options.now.file lines.now.files
+        notes more.now (of_source options.now.switches.generic (style_by (asked_of options.now)) lines.now.list)) }
     ensures decided { IfOk result (IsDecidedBy (asked_of options.now)) }
     ensures made { IfOk result (IsMadeOf (pieces_of_lines (asked_of options.now) lines.now.list)) }
 {

@@ -8,7 +8,7 @@ use Rattle.acpi_state.specs.Objects.{MethodObject, ContainerObject, Container}
 use Rattle.asl_tree.specs.FieldItems.{FieldItem}
 use Rattle.asl_tree.specs.declared.path.Path.{Path}
 use Rattle.asl_tree.specs.declared.term.Literal.{Literal}
-use Rattle.asl_tree.specs.Names.{place_of}
+use Rattle.asl_tree.specs.Names.{declared_path}
 use Rattle.asl_tree.specs.Tree.{At, Tree, Integer, Constant, String, InSlot, Buffer, Package, VarPackage, Apply, Method, Container', Scope, If, ElseIf, Else, While, For, Print, Switch, Case, Default, Break, Continue, Trees, no_trees, tree, UnitName}
 use Rattle.asl_meaning.specs.Declarations.{As, Declarations, with_declared, declare, declare_all}
 use Rattle.acpi_names.proofs.Mentions.{right_nil}
@@ -40,9 +40,9 @@ pub record Walk (A : Type 0) : Type 0 where
   pub of_case : (value : Tree) (body : Trees) (s : AbsolutePath) (d : Declarations) → of (Case value body) s d ≡ of value s d ++ all body s d
   pub of_default : (body : Trees) (s : AbsolutePath) (d : Declarations) → of (Default body) s d ≡ all body s d
   pub of_method : (at : At) (name : Path) (flags : ℕ) (body : Trees) (s : AbsolutePath) (d : Declarations)
-      → of (Method at name flags body) s d ≡ method at name flags s d ++ all body (place_of name s) (with_declared (place_of name s) (As (MethodObject flags)) d)
+      → of (Method at name flags body) s d ≡ method at name flags s d ++ all body (declared_path name s) (with_declared (declared_path name s) (As (MethodObject flags)) d)
   pub of_container : (kind : Container) (at : At) (name : Path) (body : Trees) (s : AbsolutePath) (d : Declarations)
-      → of (Container' kind at name body) s d ≡ container kind at name s d ++ all body (place_of name s) (with_declared (place_of name s) (As (ContainerObject kind)) d)
+      → of (Container' kind at name body) s d ≡ container kind at name s d ++ all body (declared_path name s) (with_declared (declared_path name s) (As (ContainerObject kind)) d)
   pub of_scope : (here at : At) (name : Path) (body : Trees) (s : AbsolutePath) (d : Declarations) → of (Scope here at name body) s d ≡ scope here at name s d ++ all body (within name s d) d
   pub of_break : (s : AbsolutePath) (d : Declarations) → of Break s d ≡ []
   pub of_continue : (s : AbsolutePath) (d : Declarations) → of Continue s d ≡ []
@@ -210,12 +210,12 @@ module _ {A : Type 0} (walk : Walk A) where
           walk.of_while test (unswitched_all plan level false body) s d ∙ ap (λ xs. W test s d ++ xs) (all_same body h.2 plan level false s d) ∙ sym (walk.of_while test body s d)
       term_same (Container' kind at name body) h plan level inside s d =
           walk.of_container kind at name (unswitched_all plan level inside body) s d
-          ∙ ap (λ xs. walk.container kind at name s d ++ xs) (all_same body h.2 plan level inside (place_of name s) (with_declared (place_of name s) (As (ContainerObject kind)) d)) ∙ sym (walk.of_container kind at name body s d)
+          ∙ ap (λ xs. walk.container kind at name s d ++ xs) (all_same body h.2 plan level inside (declared_path name s) (with_declared (declared_path name s) (As (ContainerObject kind)) d)) ∙ sym (walk.of_container kind at name body s d)
       term_same (Scope here at name body) h plan level inside s d =
           walk.of_scope here at name (unswitched_all plan level inside body) s d ∙ ap (λ xs. walk.scope here at name s d ++ xs) (all_same body h.1 plan level inside (walk.within name s d) d) ∙ sym (walk.of_scope here at name body s d)
       term_same (Method at name flags body) h plan level inside s d =
           walk.of_method at name flags (unswitched_all (plan_of body) 0 false body) s d
-          ∙ ap (λ xs. walk.method at name flags s d ++ xs) (all_same body h.2 (plan_of body) 0 false (place_of name s) (with_declared (place_of name s) (As (MethodObject flags)) d)) ∙ sym (walk.of_method at name flags body s d)
+          ∙ ap (λ xs. walk.method at name flags s d ++ xs) (all_same body h.2 (plan_of body) 0 false (declared_path name s) (with_declared (declared_path name s) (As (MethodObject flags)) d)) ∙ sym (walk.of_method at name flags body s d)
       term_same t h plan level inside s d = refl
 
       chain_same : (cases : Trees) → AreFormedCases ⊥ Listed Symbols Switches cases → (plan : Plan) (level : ℕ) (s : AbsolutePath) (d : Declarations) → Ws (chain_of (links plan level cases (default_link plan level cases))) s d ≡ Ws cases s d

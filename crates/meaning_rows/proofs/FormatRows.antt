@@ -21,7 +21,7 @@ use Rattle.aml_meaning.specs.ByteSession.{byte_session}
 use Rattle.aml_code.specs.Header.{HeaderFields, table_bytes}
 use Rattle.named_sessions.specs.Core.{core_of}
 use Rattle.asl_lower.specs.Nodes.{named_all}
-use Rattle.asl_formats.specs.Forms.{formed_all}
+use Rattle.asl_prints.specs.Forms.{formed_all}
 use Rattle.hidden_locals.specs.Switches.{without_switches}
 use Rattle.meaning_rows.proofs.Rows.{fields, narrow_fields, results}
 use Rattle.meaning_rows.proofs.Outside.{hex, text}

@@ -54,14 +54,133 @@ unit letter = record { at = at; segment = seg letter }
 -- Method (S, 1) {If (Arg0) {Return (1)} Else {Return (W (1))}}
 abbrev program : Trees
 program =
-    (tree (Name at (one 0x58) (Integer 5)) (tree (OperationRegion at (one 0x52) 1 (tree (Integer 128) (tree (Integer 4) no_trees))) (tree (Field at at (one 0x52) 2 (UnitItem (unit 0x41) 12 ∷ UnitItem (unit 0x42) 8 ∷ UnitItem (unit 0x43) 12 ∷ [])) (tree (Alias at (one 0x42) at (one 0x46)) (tree (Name at (one 0x44) (Buffer (Integer 4) (1 ∷ 2 ∷ 3 ∷ 4 ∷ []))) (tree (CreateField OneByte (tree (Use at (one 0x44)) (tree (Integer 1) no_trees)) at (one 0x45)) (tree (Container' Device at (one 0x47) (tree (Name at (one 0x50) (Package 1 (tree (Use at (one 0x58)) no_trees))) no_trees)) (tree (Scope at at (one 0x47) (tree (Name at (one 0x51) (Integer 1)) no_trees)) (tree (Method at (one 0x4D) 1 (tree (If (InSlot (ArgSlot 0)) (tree (Name at (one 0x58) (Integer 7)) no_trees)) (tree (Return (Use at (one 0x58))) no_trees))) (tree (Method at (one 0x4E) 0 (tree (Apply (Plain.Data DataOp.Store) (tree (Integer 165) (tree (Use at (one 0x46)) no_trees)) no_trees) (tree (Return (Use at (one 0x45))) no_trees))) (tree (Method at (one 0x57) 1 (tree (Apply (Plain.Data DataOp.Store) (tree (Integer 0) (tree (InSlot (LocalSlot 0)) no_trees)) no_trees) (tree (While (Apply (Plain.Number IntOp.LLess) (tree (InSlot (LocalSlot 0)) (tree (InSlot (ArgSlot 0)) no_trees)) no_trees) (tree (Apply (Plain.Data DataOp.Increment) (tree (InSlot (LocalSlot 0)) no_trees) no_trees) no_trees)) (tree (Return (Apply (Plain.Number IntOp.Add) (tree (InSlot (LocalSlot 0)) (tree (Apply (Plain.Data DataOp.DerefOf) (tree (Apply (Plain.Data DataOp.DerefOf) (tree (Apply (Plain.Data DataOp.Index) (tree (Use at (from_root (seg 0x47 ∷ seg 0x50 ∷ []))) (tree (Integer 0) no_trees)) (tree Omitted no_trees)) no_trees) no_trees) no_trees) no_trees) no_trees)) (tree Omitted no_trees))) no_trees)))) (tree (Method at (one 0x53) 1 (tree (If (InSlot (ArgSlot 0)) (tree (Return (Integer 1)) no_trees)) (tree (Else (tree (Return (Call at (one 0x57) (tree (Integer 1) no_trees))) no_trees)) no_trees))) no_trees))))))))))))
+    (tree (Name at (one 0x58) (Integer 5)) (tree (OperationRegion at (one 0x52) 1 (tree (Integer 128) (tree (Integer 4) no_trees)))
+    (tree (Field at at (one 0x52) 2 (UnitItem (unit 0x41) 12 ∷ UnitItem (unit 0x42) 8 ∷ UnitItem (unit 0x43) 12 ∷ []))
+    (tree (Alias at (one 0x42) at (one 0x46)) (tree (Name at (one 0x44) (Buffer (Integer 4) (1 ∷ 2 ∷ 3 ∷ 4 ∷ [])))
+    (tree (CreateField OneByte (tree (Use at (one 0x44)) (tree (Integer 1) no_trees)) at (one 0x45))
+    (tree (Container' Device at (one 0x47) (tree (Name at (one 0x50) (Package 1 (tree (Use at (one 0x58)) no_trees))) no_trees))
+    (tree (Scope at at (one 0x47) (tree (Name at (one 0x51) (Integer 1)) no_trees))
+    (tree (Method at (one 0x4D) 1 (tree (If (InSlot (ArgSlot 0)) (tree (Name at (one 0x58) (Integer 7)) no_trees))
+    (tree (Return (Use at (one 0x58))) no_trees))) (tree (Method at (one 0x4E) 0
+    (tree (Apply (Plain.Data DataOp.Store) (tree (Integer 165) (tree (Use at (one 0x46)) no_trees)) no_trees)
+    (tree (Return (Use at (one 0x45))) no_trees))) (tree (Method at (one 0x57) 1
+    (tree (Apply (Plain.Data DataOp.Store) (tree (Integer 0) (tree (InSlot (LocalSlot 0)) no_trees)) no_trees)
+    (tree (While (Apply (Plain.Number IntOp.LLess) (tree (InSlot (LocalSlot 0)) (tree (InSlot (ArgSlot 0)) no_trees)) no_trees)
+    (tree (Apply (Plain.Data DataOp.Increment) (tree (InSlot (LocalSlot 0)) no_trees) no_trees) no_trees))
+    (tree (Return (Apply (Plain.Number IntOp.Add) (tree (InSlot (LocalSlot 0))
+    (tree (Apply (Plain.Data DataOp.DerefOf) (tree (Apply (Plain.Data DataOp.DerefOf)
+    (tree (Apply (Plain.Data DataOp.Index) (tree (Use at (from_root (seg 0x47 ∷ seg 0x50 ∷ []))) (tree (Integer 0) no_trees))
+    (tree Omitted no_trees)) no_trees) no_trees) no_trees) no_trees) no_trees)) (tree Omitted no_trees))) no_trees))))
+    (tree (Method at (one 0x53) 1 (tree (If (InSlot (ArgSlot 0)) (tree (Return (Integer 1)) no_trees))
+    (tree (Else (tree (Return (Call at (one 0x57) (tree (Integer 1) no_trees))) no_trees)) no_trees))) no_trees))))))))))))
 
 no_errors : name_errors program ++ type_errors program ≡ []
 no_errors = refl
 
 is_shaped : AreShaped program
-is_shaped =
-    (((record { segments = (refl, tt); count = omega arith; rooted = λ root. refl }), refl, tt), tt, (((record { segments = (refl, tt); count = omega arith; rooted = λ root. refl }), omega arith, ((refl, tt), ((refl, tt), tt))), tt, (((record { is_name = (record { segments = (refl, tt); count = omega arith; rooted = λ root. refl }); start = tt }), omega arith, ((refl, omega arith), ((refl, omega arith), ((refl, omega arith), tt)))), tt, (((record { is_name = (record { segments = (refl, tt); count = omega arith; rooted = λ root. refl }); start = tt }), (record { segments = (refl, tt); count = omega arith; rooted = λ root. refl })), tt, (((record { segments = (refl, tt); count = omega arith; rooted = λ root. refl }), refl, (refl, omega arith)), tt, ((((refl, (record { is_name = (record { segments = (refl, tt); count = omega arith; rooted = λ root. refl }); start = tt })), ((refl, tt), tt)), (record { segments = (refl, tt); count = omega arith; rooted = λ root. refl })), tt, (((record { segments = (refl, tt); count = omega arith; rooted = λ root. refl }), tt, (((record { segments = (refl, tt); count = omega arith; rooted = λ root. refl }), refl, (omega arith, ((record { is_name = (record { segments = (refl, tt); count = omega arith; rooted = λ root. refl }); start = tt }), tt))), tt, tt)), tt, (((record { is_name = (record { segments = (refl, tt); count = omega arith; rooted = λ root. refl }); start = tt }), (((record { segments = (refl, tt); count = omega arith; rooted = λ root. refl }), refl, tt), tt, tt)), tt, (((record { segments = (refl, tt); count = omega arith; rooted = λ root. refl }), omega arith, ((refl, omega arith, (((record { segments = (refl, tt); count = omega arith; rooted = λ root. refl }), refl, tt), tt, tt)), tt, ((refl, (record { is_name = (record { segments = (refl, tt); count = omega arith; rooted = λ root. refl }); start = tt })), tt, tt))), tt, (((record { segments = (refl, tt); count = omega arith; rooted = λ root. refl }), omega arith, ((tt, ((refl, tt), ((record { is_name = (record { segments = (refl, tt); count = omega arith; rooted = λ root. refl }); start = tt }), tt)), refl, tt), tt, ((refl, (record { is_name = (record { segments = (refl, tt); count = omega arith; rooted = λ root. refl }); start = tt })), tt, tt))), tt, (((record { segments = (refl, tt); count = omega arith; rooted = λ root. refl }), omega arith, ((tt, ((refl, tt), (omega arith, tt)), refl, tt), tt, ((refl, (tt, ((refl, omega arith), ((refl, omega arith), tt)), refl, tt), ((tt, (omega arith, tt), refl, tt), tt, tt)), tt, ((refl, (tt, ((refl, omega arith), ((refl, (tt, ((refl, (tt, ((refl, (tt, ((refl, (record { is_name = (record { segments = (refl, (refl, tt)); count = omega arith; rooted = λ root. refl }); start = tt })), ((refl, tt), tt)), refl, (tt, tt))), tt), refl, tt)), tt), refl, tt)), tt)), refl, (tt, tt))), tt, tt)))), tt, (((record { segments = (refl, tt); count = omega arith; rooted = λ root. refl }), omega arith, ((refl, omega arith, ((refl, tt), tt, tt)), tt, (((refl, ((record { is_name = (record { segments = (refl, tt); count = omega arith; rooted = λ root. refl }); start = tt }), (refl, tt, tt))), tt, tt), tt, tt))), tt, tt))))))))))))
+is_shaped = (
+  ((record { segments = (refl, tt); count = omega arith; rooted = λ root. refl }), refl, tt),
+  tt,
+  (
+    ((record { segments = (refl, tt); count = omega arith; rooted = λ root. refl }), omega arith, ((refl, tt), ((refl, tt), tt))),
+    tt,
+    (
+      ((record { is_name = (record { segments = (refl, tt); count = omega arith; rooted = λ root. refl }); start = tt }), omega arith, ((refl, omega arith), ((refl, omega arith), ((refl, omega arith), tt)))),
+      tt,
+      (
+        ((record { is_name = (record { segments = (refl, tt); count = omega arith; rooted = λ root. refl }); start = tt }), (record { segments = (refl, tt); count = omega arith; rooted = λ root. refl })),
+        tt,
+        (
+          ((record { segments = (refl, tt); count = omega arith; rooted = λ root. refl }), refl, (refl, omega arith)),
+          tt,
+          (
+            (((refl, (record { is_name = (record { segments = (refl, tt); count = omega arith; rooted = λ root. refl }); start = tt })), ((refl, tt), tt)), (record { segments = (refl, tt); count = omega arith; rooted = λ root. refl })),
+            tt,
+            (
+              (
+                (record { segments = (refl, tt); count = omega arith; rooted = λ root. refl }),
+                tt,
+                (((record { segments = (refl, tt); count = omega arith; rooted = λ root. refl }), refl, (omega arith, ((record { is_name = (record { segments = (refl, tt); count = omega arith; rooted = λ root. refl }); start = tt }), tt))), tt, tt),
+              ),
+              tt,
+              (
+                ((record { is_name = (record { segments = (refl, tt); count = omega arith; rooted = λ root. refl }); start = tt }), (((record { segments = (refl, tt); count = omega arith; rooted = λ root. refl }), refl, tt), tt, tt)),
+                tt,
+                (
+                  (
+                    (record { segments = (refl, tt); count = omega arith; rooted = λ root. refl }),
+                    omega arith,
+                    (
+                      (refl, omega arith, (((record { segments = (refl, tt); count = omega arith; rooted = λ root. refl }), refl, tt), tt, tt)),
+                      tt,
+                      ((refl, (record { is_name = (record { segments = (refl, tt); count = omega arith; rooted = λ root. refl }); start = tt })), tt, tt),
+                    ),
+                  ),
+                  tt,
+                  (
+                    (
+                      (record { segments = (refl, tt); count = omega arith; rooted = λ root. refl }),
+                      omega arith,
+                      (
+                        (tt, ((refl, tt), ((record { is_name = (record { segments = (refl, tt); count = omega arith; rooted = λ root. refl }); start = tt }), tt)), refl, tt),
+                        tt,
+                        ((refl, (record { is_name = (record { segments = (refl, tt); count = omega arith; rooted = λ root. refl }); start = tt })), tt, tt),
+                      ),
+                    ),
+                    tt,
+                    (
+                      (
+                        (record { segments = (refl, tt); count = omega arith; rooted = λ root. refl }),
+                        omega arith,
+                        (
+                          (tt, ((refl, tt), (omega arith, tt)), refl, tt),
+                          tt,
+                          (
+                            (refl, (tt, ((refl, omega arith), ((refl, omega arith), tt)), refl, tt), ((tt, (omega arith, tt), refl, tt), tt, tt)),
+                            tt,
+                            (
+                              (
+                                refl,
+                                (
+                                  tt,
+                                  (
+                                    (refl, omega arith),
+                                    (
+                                      (refl, (tt, ((refl, (tt, ((refl, (tt, ((refl, (record { is_name = (record { segments = (refl, (refl, tt)); count = omega arith; rooted = λ root. refl }); start = tt })), ((refl, tt), tt)), refl, (tt, tt))), tt), refl, tt)), tt), refl, tt)),
+                                      tt,
+                                    ),
+                                  ),
+                                  refl,
+                                  (tt, tt),
+                                ),
+                              ),
+                              tt,
+                              tt,
+                            ),
+                          ),
+                        ),
+                      ),
+                      tt,
+                      (
+                        (
+                          (record { segments = (refl, tt); count = omega arith; rooted = λ root. refl }),
+                          omega arith,
+                          ((refl, omega arith, ((refl, tt), tt, tt)), tt, (((refl, ((record { is_name = (record { segments = (refl, tt); count = omega arith; rooted = λ root. refl }); start = tt }), (refl, tt, tt))), tt, tt), tt, tt)),
+                        ),
+                        tt,
+                        tt,
+                      ),
+                    ),
+                  ),
+                ),
+              ),
+            ),
+          ),
+        ),
+      ),
+    ),
+  ),
+)
 
 abbrev fields : HeaderFields
 fields = record { signature = codes "SSDT"; revision = 2; oem_id = codes "OEMX00"; table_id = codes "TABLE001"; oem_revision = 1 }

@@ -39,7 +39,8 @@ declared_here paths has tables d n x distinct lt size e before =
     some_kind (Some k) = refl
 
 -- what is asked of the end of a name
-pub asked_end : (whole : Whole) (paths : List AbsolutePath) (target : Option ℕ) (end : Option End) (name : Path) (scope : AbsolutePath) (test : Option (AbsolutePath × Object) → Bool) (e : NameError) (b : Bool) → b ≡ test (ended paths end) → ended paths end ≡ choose (path_with paths target) None (final whole.known) → path_with paths target ≡ denoted (is_named whole.all) name scope → unless b e ≡ unless (test (name_end whole name scope)) e
+pub asked_end : (whole : Whole) (paths : List AbsolutePath) (target : Option ℕ) (end : Option End) (name : Path) (scope : AbsolutePath) (test : Option (AbsolutePath × Object) → Bool) (e : NameError) (b : Bool) → b ≡ test (ended paths end) → ended paths end ≡ choose (path_with paths target) None (final whole.known)
+    → path_with paths target ≡ denoted (is_named whole.all) name scope → unless b e ≡ unless (test (name_end whole name scope)) e
 asked_end whole paths target end name scope test e b h k l = ap (λ b. unless b e) (h ∙ ap test (k ∙ ap (λ o. choose o None (final whole.known)) l))
 
 either : (opens first : Bool) (e : NameError) → unless (not opens || first) e ≡ (if opens then unless first e else [])

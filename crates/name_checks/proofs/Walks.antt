@@ -16,7 +16,8 @@ use Rattle.name_kinds.proofs.Places.{next_taken, next_dropped}
 moved : (a b x y r : List NameError) → b ≡ a ++ x → a ++ (x ++ y) ≡ r → b ++ y ≡ r
 moved a b x y r e h = ap (λ es. es ++ y) e ∙ append_assoc a x y ∙ h
 
-pub types_next : (paths : List AbsolutePath) (whole : Whole) (mentions : List CodeMention) (i : ℕ) (m : CodeMention) (old new : List Fault) (r : List NameError) → i < length mentions → m ≡ get_or mentions i m → Finds paths old new (mention_types whole (shown paths m)) → map (fault_as paths) old ++ all_types whole (drop i (all_shown paths mentions)) ≡ r → map (fault_as paths) new ++ all_types whole (drop (i + 1) (all_shown paths mentions)) ≡ r
+pub types_next : (paths : List AbsolutePath) (whole : Whole) (mentions : List CodeMention) (i : ℕ) (m : CodeMention) (old new : List Fault) (r : List NameError) → i < length mentions → m ≡ get_or mentions i m → Finds paths old new (mention_types whole (shown paths m))
+    → map (fault_as paths) old ++ all_types whole (drop i (all_shown paths mentions)) ≡ r → map (fault_as paths) new ++ all_types whole (drop (i + 1) (all_shown paths mentions)) ≡ r
 types_next paths whole mentions i m old new r lt e found h =
     moved (map (fault_as paths) old) (map (fault_as paths) new) (mention_types whole (shown paths m)) (all_types whole (drop (i + 1) (all_shown paths mentions))) r found
     (ap (λ ms. map (fault_as paths) old ++ all_types whole ms) (sym (next_dropped paths mentions i m lt e)) ∙ h)
@@ -24,7 +25,8 @@ types_next paths whole mentions i m old new r lt e found h =
 pub after_next : (paths : List AbsolutePath) (mentions : List CodeMention) (i : ℕ) (m : CodeMention) → i < length mentions → m ≡ get_or mentions i m → after_all (take (i + 1) (all_shown paths mentions)) nothing_declared ≡ after (shown paths m) (after_all (take i (all_shown paths mentions)) nothing_declared)
 after_next paths mentions i m lt e = ap (λ ms. after_all ms nothing_declared) (next_taken paths mentions i m lt e) ∙ after_append (take i (all_shown paths mentions)) (shown paths m ∷ []) nothing_declared
 
-pub errors_next : (paths : List AbsolutePath) (whole : Whole) (mentions : List CodeMention) (i : ℕ) (m : CodeMention) (old new : List Fault) (r : List NameError) → i < length mentions → m ≡ get_or mentions i m → Finds paths old new (mention_errors whole (shown paths m) (after_all (take i (all_shown paths mentions)) nothing_declared)) → map (fault_as paths) old ++ all_errors whole (drop i (all_shown paths mentions)) (after_all (take i (all_shown paths mentions)) nothing_declared) ≡ r → map (fault_as paths) new ++ all_errors whole (drop (i + 1) (all_shown paths mentions)) (after_all (take (i + 1) (all_shown paths mentions)) nothing_declared) ≡ r
+pub errors_next : (paths : List AbsolutePath) (whole : Whole) (mentions : List CodeMention) (i : ℕ) (m : CodeMention) (old new : List Fault) (r : List NameError) → i < length mentions → m ≡ get_or mentions i m → Finds paths old new (mention_errors whole (shown paths m) (after_all (take i (all_shown paths mentions)) nothing_declared))
+    → map (fault_as paths) old ++ all_errors whole (drop i (all_shown paths mentions)) (after_all (take i (all_shown paths mentions)) nothing_declared) ≡ r → map (fault_as paths) new ++ all_errors whole (drop (i + 1) (all_shown paths mentions)) (after_all (take (i + 1) (all_shown paths mentions)) nothing_declared) ≡ r
 errors_next paths whole mentions i m old new r lt e found h =
     let d = after_all (take i (all_shown paths mentions)) nothing_declared in
     let rest = drop (i + 1) (all_shown paths mentions) in

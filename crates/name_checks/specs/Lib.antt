@@ -2,4 +2,3 @@ pub mod Messages
 pub mod Faults
 pub mod Calls
 pub mod Refusals
-pub mod Seen

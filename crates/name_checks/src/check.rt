@@ -15,7 +15,6 @@ ghost use Rattle.name_kinds.specs.Facts.{Knows};
 ghost use Rattle.name_checks.specs.Messages.{message_of, told_errors};
 ghost use Rattle.name_kinds.specs.Tables.{AreSized, IsThere};
 ghost use Rattle.name_checks.specs.Refusals.{Refuses};
-ghost use Rattle.name_checks.specs.Seen.{seen_errors};
 ghost use Rattle.name_kinds.specs.Known.{KnowsItsTerms};
 ghost use Rattle.name_kinds.specs.Seen.{seen};
 
@@ -231,17 +230,27 @@ pub fn kind_faults(
     Ok(Messages::from_vec(errors))
 }
 
-// What there is to say of the names that a block mentions: the errors of names, or where there are none those of kinds.
-pub(crate) fn examine(alloc: Global, known: &Known<'_>) -> Result<Messages, AllocError>
+// What is wrong with the names of a block of which this is known: the class of names.
+pub(crate) fn name_errors_in(alloc: Global, known: &Known<'_>) -> Result<Messages, AllocError>
     requires { KnowsItsTerms known.now }
-    ensures { IfOk result (λ errors. errors ≡ seen_errors (block_mentions (trees_of known.now.terms.now) [] nothing_declared)) }
+    ensures { IfOk result
+        (λ ms. are_terms (trees_of known.now.terms.now) ≡ true → ms ≡ map message_of (name_errors (trees_of known.now.terms.now))) }
 {
-    let names = name_faults(alloc, &known.facts, &known.mentions)?;
-    if !names.is_empty() {
-        return Ok(names);
-    }
-    let kinds = kind_faults(alloc, &known.facts, &known.mentions)?;
-    Ok(kinds)
+    let errors = name_faults(alloc, &known.facts, &known.mentions)?;
+    Ok(errors)
+}
+
+/// What is wrong with the kinds of what a block of which this is known uses, and with how many arguments its calls have,
+/// where nothing is wrong with its names: the errors 6051, 6054 and 6020, in the order of the terms. The only error is want
+/// of memory.
+pub fn kind_errors(alloc: Global, known: &Known<'_>) -> Result<Messages, AllocError>
+    requires { KnowsItsTerms known.now }
+    ensures { IfOk result
+        (λ ms. are_terms (trees_of known.now.terms.now) ≡ true → name_errors (trees_of known.now.terms.now) ≡ [] →
+        ms ≡ map message_of (type_errors (trees_of known.now.terms.now))) }
+{
+    let errors = kind_faults(alloc, &known.facts, &known.mentions)?;
+    Ok(errors)
 }
 
 // The names that are known.
@@ -252,11 +261,39 @@ fn names_in(known: Known<'_>) -> Names
     ensures root { get_or result.index.paths 0 [] ≡ [] }
     ensures names { Agrees result.index.paths result.index.named.items (declarations (trees_of known.entry.terms.now)) }
     ensures sized { length result.calls.items ≡ length result.index.paths }
-    ensures calls { Tabled result.index.paths result.calls.items (lookup (seen (block_mentions (trees_of known.entry.terms.now) [] nothing_declared)).calls) }
+    ensures calls { Tabled result.index.paths result.calls.items
+        (lookup (seen (block_mentions (trees_of known.entry.terms.now) [] nothing_declared)).calls) }
 {
     let count = known.facts.index.paths.len();
     let (index, calls) = known.into_names();
     Names { index, calls }
+}
+
+/// The names of a block of which this is known, where nothing is wrong with them (ACPI Specification 6.4, 5.3 and 19.6).
+/// Otherwise it is refused with exactly the errors of names, 6040 to 6046, in the order of the terms. Kinds are not looked
+/// at. A want of memory is `Stage::Memory`. The terms are borrowed no more.
+pub fn index(alloc: Global, known: Known<'_>) -> Result<Names, Stage>
+    requires terms { are_terms (trees_of known.terms.now) ≡ true }
+    requires known { KnowsItsTerms known }
+    ensures size { IfOk result (λ n. length n.index.named.items ≡ length n.index.paths) }
+    ensures some { IfOk result (λ n. 0 < length n.index.paths) }
+    ensures root { IfOk result (λ n. get_or n.index.paths 0 [] ≡ []) }
+    ensures names { IfOk result (λ n. Agrees n.index.paths n.index.named.items (declarations (trees_of known.entry.terms.now))) }
+    ensures sized { IfOk result (λ n. length n.calls.items ≡ length n.index.paths) }
+    ensures calls { IfOk result (λ n. Tabled n.index.paths n.calls.items (lookup (whole_of (trees_of known.entry.terms.now)).calls)) }
+    ensures right { OnOk result (name_errors (trees_of known.entry.terms.now) ≡ []) }
+    ensures refused { IfErr result (λ stage. Refuses stage (map message_of (name_errors (trees_of known.entry.terms.now)))) }
+{
+    match name_errors_in(alloc, &known) {
+        Ok(errors) => {
+            if errors.is_empty() {
+                Ok(names_in(known))
+            } else {
+                Err(Stage::Refused(errors))
+            }
+        }
+        Err(_) => Err(Stage::Memory),
+    }
 }
 
 /// The names of a block of which this is known, where all are right (ACPI Specification 6.4, 5.3 and 19.6). Otherwise it
@@ -271,17 +308,21 @@ pub fn check_known(alloc: Global, known: Known<'_>) -> Result<Names, Stage>
     ensures names { IfOk result (λ n. Agrees n.index.paths n.index.named.items (declarations (trees_of known.entry.terms.now))) }
     ensures sized { IfOk result (λ n. length n.calls.items ≡ length n.index.paths) }
     ensures calls { IfOk result (λ n. Tabled n.index.paths n.calls.items (lookup (whole_of (trees_of known.entry.terms.now)).calls)) }
-    ensures right { OnOk result ((name_errors (trees_of known.entry.terms.now) ≡ []) × (type_errors (trees_of known.entry.terms.now) ≡ [])) }
+    ensures right { OnOk result
+        ((name_errors (trees_of known.entry.terms.now) ≡ []) × (type_errors (trees_of known.entry.terms.now) ≡ [])) }
     ensures refused { IfErr result (λ stage. Refuses stage (told_errors (trees_of known.entry.terms.now))) }
 {
-    match examine(alloc, &known) {
-        Ok(errors) => {
-            if errors.is_empty() {
-                Ok(names_in(known))
-            } else {
-                Err(Stage::Refused(errors))
+    match kind_errors(alloc, &known) {
+        Ok(kinds) => match index(alloc, known) {
+            Ok(names) => {
+                if kinds.is_empty() {
+                    Ok(names)
+                } else {
+                    Err(Stage::Refused(kinds))
+                }
             }
-        }
+            Err(stage) => Err(stage),
+        },
         Err(_) => Err(Stage::Memory),
     }
 }

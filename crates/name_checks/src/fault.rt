@@ -4,9 +4,9 @@ ghost use Rattle.name_checks.specs.Messages.{message as message_is, message_of, 
 ghost use Rattle.acpi_names.specs.Shown.{written_as};
 ghost use Rattle.name_checks.specs.Faults.{fault_as};
 
-use acpi_names::mention::{Spot, WrittenName};
+use acpi_names::lookup::scope_in;
+use acpi_names::mention::{Occurrence, WrittenName};
 use acpi_names::paths::Paths;
-use acpi_names::place::scope_in;
 use asl_tree::path::{NameSeg, Path};
 use iasl_messages::message::Message;
 use iasl_messages::number;
@@ -18,23 +18,50 @@ use std::alloc::{AllocError, Global};
 #[derive(Clone, Copy)]
 pub enum Fault<'a> {
     /// The path is declared before, or of the root.
-    Twice { at: Spot, path: usize },
+    Twice {
+        at: Occurrence,
+        path: usize,
+    },
     /// The path of an External is declared by the block.
-    DeclaredHere { at: Spot, path: usize },
+    DeclaredHere {
+        at: Occurrence,
+        path: usize,
+    },
     /// The name denotes nothing, or its scope is not there.
-    Missing { at: Spot, name: WrittenName<'a> },
+    Missing {
+        at: Occurrence,
+        name: WrittenName<'a>,
+    },
     /// A Scope of something that has no scope.
-    NoContainer { at: Spot, name: WrittenName<'a> },
+    NoContainer {
+        at: Occurrence,
+        name: WrittenName<'a>,
+    },
     /// More steps up than scopes.
-    LeavesRoot { at: Spot, name: WrittenName<'a> },
+    LeavesRoot {
+        at: Occurrence,
+        name: WrittenName<'a>,
+    },
     /// Not as the External before or as the first call.
-    Differs { at: Spot, name: WrittenName<'a> },
+    Differs {
+        at: Occurrence,
+        name: WrittenName<'a>,
+    },
     /// A path of more than 255 segments.
-    TooLong { at: Spot, name: WrittenName<'a> },
+    TooLong {
+        at: Occurrence,
+        name: WrittenName<'a>,
+    },
     /// A use or a call with another number of arguments.
-    WrongCount { at: Spot, name: WrittenName<'a> },
+    WrongCount {
+        at: Occurrence,
+        name: WrittenName<'a>,
+    },
     /// An object that is not of the kind that is asked for.
-    WrongKind { at: Spot, name: WrittenName<'a> },
+    WrongKind {
+        at: Occurrence,
+        name: WrittenName<'a>,
+    },
 }
 
 // Segments, each behind a dot.
@@ -126,7 +153,12 @@ pub fn text_of_path(alloc: Global, paths: &Paths, number: usize) -> Result<Text,
 }
 
 // A message with a name.
-fn named(alloc: Global, number: u16, at: Spot, name: WrittenName) -> Result<Message, AllocError>
+fn named(
+    alloc: Global,
+    number: u16,
+    at: Occurrence,
+    name: WrittenName,
+) -> Result<Message, AllocError>
     ensures { IfOk result (λ m. m ≡ message_is number at.place (name_text (written_as name.entry))) }
 {
     let text = written_text(alloc, name)?;
@@ -142,7 +174,7 @@ fn pathed(
     alloc: Global,
     paths: &Paths,
     number: u16,
-    at: Spot,
+    at: Occurrence,
     path: usize,
 ) -> Result<Message, AllocError>
     ensures { IfOk result (λ m. m ≡ message_is number at.place (path_text (get_or paths.now path []))) }

@@ -4,7 +4,7 @@ ghost use Rattle.std.specs.Option.{option_map};
 ghost use Rattle.acpi_values.specs.Paths.{AbsolutePath, is_same_path};
 ghost use Rattle.acpi_state.specs.Objects.{lookup};
 ghost use Rattle.acpi_state.specs.Outcomes.{choose};
-ghost use Rattle.asl_tree.specs.Names.{place_of, denoted as denotes_path};
+ghost use Rattle.asl_tree.specs.Names.{declared_path, denoted as denotes_path};
 ghost use Rattle.asl_meaning.specs.Declarations.{Declarations, in_root, is_named};
 ghost use Rattle.acpi_names.specs.Errors as spec;
 ghost use Rattle.acpi_names.specs.Errors.{Whole, final};
@@ -19,14 +19,14 @@ ghost use Rattle.name_kinds.specs.Kinds.{object_as, type_as};
 ghost use Rattle.name_kinds.specs.Tables.{AreSized};
 
 use crate::fault::Fault;
-use acpi_names::mention::{Asked, Spot, WrittenName};
-use acpi_names::place::scope_in;
+use acpi_names::lookup::scope_in;
+use acpi_names::mention::{Asked, Occurrence, WrittenName};
 use asl_tree::path::Path;
 use name_kinds::facts::{Facts, end, is_named_at};
 use name_kinds::kind::{
     End, External, is_container, is_event, is_method, is_mutex, is_region, is_unit, operand_count,
 };
-use name_kinds::tables::{Tables, is_in_root, place};
+use name_kinds::tables::{Tables, declared_at, is_in_root};
 use std::alloc::AllocError;
 
 /// The most segments of a path.
@@ -165,7 +165,7 @@ fn steps_up(name: WrittenName) -> u32
 pub fn step_errors<'a>(
     out: &mut Vec<Fault<'a>>,
     facts: &Facts,
-    at: Spot,
+    at: Occurrence,
     name: WrittenName<'a>,
     scope: usize,
 ) -> Result<(), AllocError>
@@ -188,7 +188,7 @@ pub fn step_errors<'a>(
 fn length_errors<'a>(
     out: &mut Vec<Fault<'a>>,
     facts: &Facts,
-    at: Spot,
+    at: Occurrence,
     name: WrittenName<'a>,
     number: usize,
 ) -> Result<(), AllocError>
@@ -212,19 +212,19 @@ pub fn declared_errors<'a>(
     out: &mut Vec<Fault<'a>>,
     facts: &Facts,
     before: &Tables,
-    at: Spot,
+    at: Occurrence,
     name: WrittenName<'a>,
     scope: usize,
 ) -> Result<(), AllocError>
     ghost whole: { Whole }
     requires told { Knows facts.now whole }
-    requires there { is_named whole.all (place_of (written_as name) (get_or facts.now.index.paths scope [])) ≡ true }
+    requires there { is_named whole.all (declared_path (written_as name) (get_or facts.now.index.paths scope [])) ≡ true }
     requires sized { AreSized facts.now.index.paths before.now }
     ensures { OnOk result ((d : Declarations) → Before facts.now.index.paths (is_named whole.all) before.now d →
         Finds facts.now.index.paths out.old.items out.new.items
         (spec.declared_errors whole (spot_as at) (written_as name.entry) (get_or facts.now.index.paths scope []) d)) }
 {
-    let path = place(&facts.index, name, scope);
+    let path = declared_at(&facts.index, name, scope);
     unless(out, is_new(facts, before, path), Fault::Twice { at, path })?;
     step_errors(out, facts, at, name, scope)?;
     unless(out, has_parent(facts, path), Fault::Missing { at, name })?;
@@ -237,22 +237,22 @@ pub fn external_errors<'a>(
     out: &mut Vec<Fault<'a>>,
     facts: &Facts,
     before: &Tables,
-    here: Spot,
-    at: Spot,
+    here: Occurrence,
+    at: Occurrence,
     name: &'a Path,
     external: External,
     scope: usize,
 ) -> Result<(), AllocError>
     ghost whole: { Whole }
     requires told { Knows facts.now whole }
-    requires there { is_named whole.all (place_of name.now (get_or facts.now.index.paths scope [])) ≡ true }
+    requires there { is_named whole.all (declared_path name.now (get_or facts.now.index.paths scope [])) ≡ true }
     requires sized { AreSized facts.now.index.paths before.now }
     ensures { OnOk result ((d : Declarations) → Before facts.now.index.paths (is_named whole.all) before.now d →
         Finds facts.now.index.paths out.old.items out.new.items
         (spec.external_errors whole (spot_as here) (spot_as at) name.now (type_as external) (get_or facts.now.index.paths scope []) d)) }
 {
     let written = WrittenName::Path(name);
-    let path = place(&facts.index, written, scope);
+    let path = declared_at(&facts.index, written, scope);
     let declared = is_declared(facts, &facts.tables, path);
     unless(out, !declared, Fault::DeclaredHere { at, path })?;
     step_errors(out, facts, at, written, scope)?;
@@ -273,7 +273,7 @@ pub fn external_errors<'a>(
 pub fn use_errors<'a>(
     out: &mut Vec<Fault<'a>>,
     facts: &Facts,
-    at: Spot,
+    at: Occurrence,
     name: &'a Path,
     scope: usize,
     target: Option<usize>,
@@ -326,7 +326,7 @@ fn is_answered(external: Option<External>, first: Option<usize>, args: usize) ->
 pub fn call_errors<'a>(
     out: &mut Vec<Fault<'a>>,
     facts: &Facts,
-    at: Spot,
+    at: Occurrence,
     name: &'a Path,
     args: usize,
     scope: usize,
@@ -376,8 +376,8 @@ fn opens(facts: &Facts, number: usize) -> bool
 pub fn scope_errors<'a>(
     out: &mut Vec<Fault<'a>>,
     facts: &Facts,
-    here: Spot,
-    at: Spot,
+    here: Occurrence,
+    at: Occurrence,
     name: &'a Path,
     scope: usize,
     inner: usize,
@@ -487,7 +487,7 @@ pub fn asked_types<'a>(
     out: &mut Vec<Fault<'a>>,
     facts: &Facts,
     asked: Asked,
-    at: Spot,
+    at: Occurrence,
     name: &'a Path,
     scope: usize,
     target: Option<usize>,
@@ -533,7 +533,7 @@ pub fn asked_types<'a>(
 pub fn call_types<'a>(
     out: &mut Vec<Fault<'a>>,
     facts: &Facts,
-    at: Spot,
+    at: Occurrence,
     name: &'a Path,
     args: usize,
     scope: usize,

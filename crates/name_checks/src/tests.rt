@@ -1,8 +1,8 @@
-use crate::check::{check, examine};
+use crate::check::{check, kind_errors, name_errors_in};
 use acpi_values::operator::{EventOp, Plain};
 use asl_tree::path::{NameSeg, Path, Segs};
 use asl_tree::term::{Control, Declaration, Node, Op, Special, Term};
-use iasl_messages::message::Message;
+use iasl_messages::message::{Message, Messages};
 use iasl_messages::place::Place;
 use name_kinds::known::known_of;
 use std::alloc::{AllocError, Global};
@@ -235,9 +235,20 @@ fn told(alloc: Global, errors: &[Message]) -> Result<String, AllocError> {
     Ok(out)
 }
 
+// The errors of names, or where there are none those of kinds.
+fn examine(alloc: Global, nodes: &[Node]) -> Result<Messages, AllocError> {
+    let known = known_of(alloc, nodes)?;
+    let names = name_errors_in(alloc, &known)?;
+    if names.is_empty() {
+        kind_errors(alloc, &known)
+    } else {
+        Ok(names)
+    }
+}
+
 fn errors(alloc: Global, text: &str) -> Result<String, AllocError> {
     let nodes = terms(alloc, text)?;
-    let errors = examine(alloc, &known_of(alloc, &nodes)?)?;
+    let errors = examine(alloc, &nodes)?;
     told(alloc, errors.as_slice())
 }
 
@@ -389,7 +400,7 @@ fn long(alloc: Global, count: u32) -> Result<String, AllocError> {
 // How many errors a path of so many segments has, and the number of the last.
 fn errors_of_long(alloc: Global, count: u32) -> Result<(usize, u16), AllocError> {
     let nodes = terms(alloc, long(alloc, count)?.as_str())?;
-    let errors = examine(alloc, &known_of(alloc, &nodes)?)?;
+    let errors = examine(alloc, &nodes)?;
     match errors.as_slice().last() {
         Some(last) => Ok((errors.len(), last.number)),
         None => Ok((0, 0)),
@@ -479,7 +490,7 @@ fn chain(alloc: Global, count: u32) -> Result<Vec<Node>, AllocError> {
 fn a_long_chain_of_aliases_is_right(rt: HostRuntime) -> Result<(), Fail> {
     let alloc = rt.alloc();
     let nodes = chain(alloc, 100_000)?;
-    let errors = examine(alloc, &known_of(alloc, &nodes)?)?;
+    let errors = examine(alloc, &nodes)?;
     assert_eq!(rt; errors.len(), 0);
     Ok(())
 }

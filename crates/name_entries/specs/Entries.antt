@@ -1,55 +1,56 @@
 -- What stands at the paths of a block (ACPI Specification 6.4, 5.3 and 19.6).
-use Rattle.std.specs.Prelude.{ℕ, nat_eq, nat_le, List, [], get_or, Option, Some, None, if◌then◌else◌}
+use Rattle.std.specs.Prelude.{ℕ, nat_eq, nat_le, List, [], get_or, slice_get, Option, Some, None, if◌then◌else◌}
 use Rattle.std.specs.Option.{option_map}
 use Rattle.acpi_values.specs.Paths.{AbsolutePath}
 use Rattle.acpi_state.specs.Objects.{Object, DataObject, MethodObject, ContainerObject, MutexObject, EventObject, RegionObject, UnitObject}
 use Rattle.acpi_state.specs.Objects.{BufferFieldObject, AliasObject, ExternalObject, ExternalMethod, ExternalData, ExternalOther, OfRoot}
 use Rattle.acpi_state.specs.Objects.{Device, ThermalZone, PowerResource, Processor, operand_count}
+use Rattle.acpi_state.specs.Outcomes.{choose}
 use Rattle.asl_tree.specs.Names.{absolute}
 use Rattle.asl_tree.specs.Tree.{Trees}
 use Rattle.asl_meaning.specs.Declarations.{nothing_declared, is_named}
 use Rattle.acpi_names.specs.Errors.{Whole, whole_of, final}
 use Rattle.acpi_names.specs.Mentions.{block_mentions}
 use Rattle.name_entries.specs.Placed.{Places, no_places, placed_all, place_at}
-use Rattle.name_entries.specs.declared.kind.Kind.{Kind}
+use Rattle.name_entries.specs.declared.kind.ObjectType.{ObjectType}
 use Rattle.name_entries.specs.declared.description.Description.{Description}
 use Rattle.name_entries.specs.declared.entries.Entry.{Entry}
 
 -- the kinds by the numbers of the object types, from IntObj to BuffFieldObj; any other number says no type
-abbrev pub type_kind : ℕ → Kind
+abbrev pub type_kind : ℕ → ObjectType
 type_kind type =
-    if nat_eq type 1 then Kind.Integer
-    else if nat_eq type 2 then Kind.String
-    else if nat_eq type 3 then Kind.Buffer
-    else if nat_eq type 4 then Kind.Package
-    else if nat_eq type 5 then Kind.FieldUnit
-    else if nat_eq type 6 then Kind.Device
-    else if nat_eq type 7 then Kind.Event
-    else if nat_eq type 8 then Kind.Method
-    else if nat_eq type 9 then Kind.Mutex
-    else if nat_eq type 10 then Kind.Region
-    else if nat_eq type 11 then Kind.PowerResource
-    else if nat_eq type 12 then Kind.Processor
-    else if nat_eq type 13 then Kind.ThermalZone
-    else if nat_eq type 14 then Kind.BufferField
-    else Kind.Unknown
+    if nat_eq type 1 then ObjectType.Integer
+    else if nat_eq type 2 then ObjectType.String
+    else if nat_eq type 3 then ObjectType.Buffer
+    else if nat_eq type 4 then ObjectType.Package
+    else if nat_eq type 5 then ObjectType.FieldUnit
+    else if nat_eq type 6 then ObjectType.Device
+    else if nat_eq type 7 then ObjectType.Event
+    else if nat_eq type 8 then ObjectType.Method
+    else if nat_eq type 9 then ObjectType.Mutex
+    else if nat_eq type 10 then ObjectType.Region
+    else if nat_eq type 11 then ObjectType.PowerResource
+    else if nat_eq type 12 then ObjectType.Processor
+    else if nat_eq type 13 then ObjectType.ThermalZone
+    else if nat_eq type 14 then ObjectType.BufferField
+    else ObjectType.Unknown
 
 -- the kind of an object: as it is declared, or as an External says it
-abbrev pub object_kind : Object → Kind
-object_kind DataObject = Kind.Data
-object_kind (MethodObject flags) = Kind.Method
-object_kind (ContainerObject OfRoot) = Kind.Container
-object_kind (ContainerObject Device) = Kind.Device
-object_kind (ContainerObject ThermalZone) = Kind.ThermalZone
-object_kind (ContainerObject (PowerResource level order)) = Kind.PowerResource
-object_kind (ContainerObject (Processor number address size)) = Kind.Processor
-object_kind (MutexObject level) = Kind.Mutex
-object_kind EventObject = Kind.Event
-object_kind (RegionObject space offset length) = Kind.Region
-object_kind (UnitObject unit) = Kind.FieldUnit
-object_kind (BufferFieldObject field) = Kind.BufferField
-object_kind (AliasObject target) = Kind.Data
-object_kind (ExternalObject (ExternalMethod arity)) = Kind.Method
+abbrev pub object_kind : Object → ObjectType
+object_kind DataObject = ObjectType.Data
+object_kind (MethodObject flags) = ObjectType.Method
+object_kind (ContainerObject OfRoot) = ObjectType.Container
+object_kind (ContainerObject Device) = ObjectType.Device
+object_kind (ContainerObject ThermalZone) = ObjectType.ThermalZone
+object_kind (ContainerObject (PowerResource level order)) = ObjectType.PowerResource
+object_kind (ContainerObject (Processor number address size)) = ObjectType.Processor
+object_kind (MutexObject level) = ObjectType.Mutex
+object_kind EventObject = ObjectType.Event
+object_kind (RegionObject space offset length) = ObjectType.Region
+object_kind (UnitObject unit) = ObjectType.FieldUnit
+object_kind (BufferFieldObject field) = ObjectType.BufferField
+object_kind (AliasObject target) = ObjectType.Data
+object_kind (ExternalObject (ExternalMethod arity)) = ObjectType.Method
 object_kind (ExternalObject (ExternalData type)) = type_kind type
 object_kind (ExternalObject (ExternalOther type)) = type_kind type
 
@@ -58,8 +59,8 @@ abbrev pub as_byte : ℕ → ℕ
 as_byte count = if nat_le count 255 then count else 255
 
 -- the kind and the number of arguments of what a path ends at; where it ends nowhere, data of any kind and no method
-abbrev pub end_kind : Option (AbsolutePath × Object) → Kind
-end_kind None = Kind.Data
+abbrev pub end_kind : Option (AbsolutePath × Object) → ObjectType
+end_kind None = ObjectType.Data
 end_kind (Some found) = object_kind found.1
 
 abbrev pub end_arity : Option (AbsolutePath × Object) → ℕ
@@ -78,8 +79,15 @@ described_by whole places path =
 abbrev pub described : Trees → AbsolutePath → Option Description
 described program path = described_by (whole_of program) (placed_all (block_mentions program [] nothing_declared) no_places) path
 
--- the entry with a number, by the paths with numbers and what is said of each
-abbrev pub entry_in : List AbsolutePath → List (Option Description) → ℕ → Option Entry
-entry_in paths said number =
-    option_map (λ d. record { number = number; path = absolute (get_or paths number []); kind = d.kind; arity = d.arity; place = d.place })
-    (get_or said number None)
+-- the entry of a path with its number, of which this is said
+abbrev pub entry_as : ℕ → AbsolutePath → Description → Entry
+entry_as number path said = record { number = number; path = absolute path; kind = said.kind; arity = said.arity; place = said.place }
+
+abbrev pub entry_said : List AbsolutePath → ℕ → Option Description → Option Entry
+entry_said paths number said = option_map (entry_as number (get_or paths number [])) said
+
+-- the entry with a number in a block, where its paths have these numbers: none where there are not that many, and none of
+-- a path that is neither declared nor of another table nor of the root
+abbrev pub entry_in : Trees → List AbsolutePath → ℕ → Option Entry
+entry_in program paths number =
+    choose (slice_get paths number) None (λ path. option_map (entry_as number path) (described program path))

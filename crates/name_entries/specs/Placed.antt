@@ -3,7 +3,7 @@ use Rattle.std.specs.Prelude.{◌≡◌, Bool, true, false, List, [], ◌∷◌,
 use Rattle.acpi_values.specs.Paths.{AbsolutePath}
 use Rattle.acpi_state.specs.Objects.{lookup}
 use Rattle.iasl_messages.specs.declared.place.Place.{Place}
-use Rattle.asl_tree.specs.Names.{place_of}
+use Rattle.asl_tree.specs.Names.{declared_path}
 use Rattle.asl_meaning.specs.Declarations.{in_root}
 use Rattle.acpi_names.specs.Mentions.{Mention, Declares, Outside}
 use Rattle.acpi_names.specs.Tables.{Tabled}
@@ -23,8 +23,8 @@ with_outside true path place places = places
 with_outside false path place places = record places { external = (path, place) ∷ places.external }
 
 abbrev pub placed : Mention → Places → Places
-placed (Declares at name as' scope) places = record places { declared = (place_of name scope, at.place) ∷ places.declared }
-placed (Outside here at name type scope) places = with_outside (in_root (place_of name scope)) (place_of name scope) at.place places
+placed (Declares at name as' scope) places = record places { declared = (declared_path name scope, at.place) ∷ places.declared }
+placed (Outside here at name type scope) places = with_outside (in_root (declared_path name scope)) (declared_path name scope) at.place places
 placed _ places = places
 
 abbrev pub placed_all : List Mention → Places → Places

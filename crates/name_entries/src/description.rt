@@ -10,7 +10,7 @@ ghost use Rattle.name_entries.specs.Entries.{as_byte, end_arity, end_kind, descr
 ghost use Rattle.name_entries.specs.Placed.{Places, AreAll, ArePlaced, no_places, placed_all};
 ghost use Rattle.acpi_values.specs.Paths.{AbsolutePath};
 
-use crate::kind::{Kind, kind_of};
+use crate::kind::{ObjectType, kind_of};
 use crate::places::{PlaceTables, place_of, places_of};
 use acpi_names::mention::Mention;
 use iasl_messages::place::Place;
@@ -21,7 +21,7 @@ use std::alloc::{AllocError, Global};
 /// What stands at a path: its kind, how many arguments it takes, and the place of the node that declares its name.
 #[derive(Clone, Copy, PartialEq, Eq, Debug)]
 pub struct Description {
-    pub kind: Kind,
+    pub kind: ObjectType,
     pub arity: u8,
     pub place: Place,
 }
@@ -34,11 +34,11 @@ fn byte(count: u64) -> u8
 }
 
 /// The kind of what stands at an end: data of any kind where a path leads nowhere.
-pub fn kind_at(end: Option<End>) -> Kind
+pub fn kind_at(end: Option<End>) -> ObjectType
     ensures { (paths : List AbsolutePath) → result ≡ end_kind (ended paths end) }
 {
     match end {
-        None => Kind::Data,
+        None => ObjectType::Data,
         Some(end) => kind_of(end.object),
     }
 }

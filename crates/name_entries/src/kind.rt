@@ -9,7 +9,7 @@ use name_kinds::kind::{Object, Outside};
 
 /// What stands at a path, by the object types of External and ObjectType (ACPI Specification 6.4, 19.6).
 #[derive(Clone, Copy, PartialEq, Eq, Debug)]
-pub enum Kind {
+pub enum ObjectType {
     /// An object of another table, of which no type is said.
     Unknown,
     Integer,
@@ -33,56 +33,56 @@ pub enum Kind {
 }
 
 // The kind with the number of an object type.
-fn numbered(number: u64) -> Kind
+fn numbered(number: u64) -> ObjectType
     ensures { result ≡ type_kind number }
 {
     match number {
-        1 => Kind::Integer,
-        2 => Kind::String,
-        3 => Kind::Buffer,
-        4 => Kind::Package,
-        5 => Kind::FieldUnit,
-        6 => Kind::Device,
-        7 => Kind::Event,
-        8 => Kind::Method,
-        9 => Kind::Mutex,
-        10 => Kind::Region,
-        11 => Kind::PowerResource,
-        12 => Kind::Processor,
-        13 => Kind::ThermalZone,
-        14 => Kind::BufferField,
-        _ => Kind::Unknown,
+        1 => ObjectType::Integer,
+        2 => ObjectType::String,
+        3 => ObjectType::Buffer,
+        4 => ObjectType::Package,
+        5 => ObjectType::FieldUnit,
+        6 => ObjectType::Device,
+        7 => ObjectType::Event,
+        8 => ObjectType::Method,
+        9 => ObjectType::Mutex,
+        10 => ObjectType::Region,
+        11 => ObjectType::PowerResource,
+        12 => ObjectType::Processor,
+        13 => ObjectType::ThermalZone,
+        14 => ObjectType::BufferField,
+        _ => ObjectType::Unknown,
     }
 }
 
 // The kind of what is declared.
-fn declared(what: What) -> Kind
+fn declared(what: What) -> ObjectType
     ensures { result ≡ object_kind (object_as (O.Declared what)) }
 {
     match what {
-        What::Data => Kind::Data,
-        What::Method(_) => Kind::Method,
-        What::Mutex(_) => Kind::Mutex,
-        What::Event => Kind::Event,
-        What::Device => Kind::Device,
-        What::ThermalZone => Kind::ThermalZone,
-        What::PowerResource(_, _) => Kind::PowerResource,
-        What::Processor(_, _, _) => Kind::Processor,
-        What::Region(_) => Kind::Region,
-        What::Unit => Kind::FieldUnit,
-        What::BufferField => Kind::BufferField,
+        What::Data => ObjectType::Data,
+        What::Method(_) => ObjectType::Method,
+        What::Mutex(_) => ObjectType::Mutex,
+        What::Event => ObjectType::Event,
+        What::Device => ObjectType::Device,
+        What::ThermalZone => ObjectType::ThermalZone,
+        What::PowerResource(_, _) => ObjectType::PowerResource,
+        What::Processor(_, _, _) => ObjectType::Processor,
+        What::Region(_) => ObjectType::Region,
+        What::Unit => ObjectType::FieldUnit,
+        What::BufferField => ObjectType::BufferField,
     }
 }
 
 /// The kind of an object.
-pub fn kind_of(object: Object) -> Kind
+pub fn kind_of(object: Object) -> ObjectType
     ensures { result ≡ object_kind (object_as object) }
 {
     match object {
         Object::Declared(what) => declared(what),
-        Object::Container => Kind::Container,
-        Object::Lock => Kind::Mutex,
-        Object::Outside(Outside::Method(_)) => Kind::Method,
+        Object::Container => ObjectType::Container,
+        Object::Lock => ObjectType::Mutex,
+        Object::Outside(Outside::Method(_)) => ObjectType::Method,
         Object::Outside(Outside::Data(number)) => numbered(number),
         Object::Outside(Outside::Other(number)) => numbered(number),
     }

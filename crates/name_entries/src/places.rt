@@ -13,7 +13,7 @@ use acpi_names::index::Index;
 use acpi_names::mention::{Mention, WrittenName};
 use acpi_names::paths::Paths;
 use iasl_messages::place::Place;
-use name_kinds::tables::{is_in_root, place};
+use name_kinds::tables::{declared_at, is_in_root};
 use std::alloc::{AllocError, Global};
 
 /// Where the paths with these numbers are declared last, and where their last External names them: the place of the
@@ -79,7 +79,7 @@ fn note(index: &Index, tables: &mut PlaceTables, mention: &Mention)
             scope,
             ..
         } => {
-            let number = place(index, *name, *scope);
+            let number = declared_at(index, *name, *scope);
             note_declared(&index.paths, tables, number, at.place);
         }
         Mention::Outside {
@@ -88,7 +88,7 @@ fn note(index: &Index, tables: &mut PlaceTables, mention: &Mention)
             scope,
             ..
         } => {
-            let number = place(index, WrittenName::Path(name), *scope);
+            let number = declared_at(index, WrittenName::Path(name), *scope);
             note_outside(&index.paths, tables, number, at.place);
         }
         Mention::Used { .. } => {}

@@ -11,8 +11,8 @@ ghost use Rattle.name_entries.specs.Uses.{Use, Denotes, used_by, uses_after, den
 ghost use Rattle.name_kinds.specs.Known.{KnowsItsTerms};
 
 use acpi_names::index::{Index, denoted_by};
+use acpi_names::lookup::scope_in;
 use acpi_names::mention::Mention;
-use acpi_names::place::scope_in;
 use asl_tree::path::Path;
 use name_kinds::known::Known;
 use std::alloc::{AllocError, Global};
@@ -20,8 +20,8 @@ use std::alloc::{AllocError, Global};
 // No more paths than this, so that a number has 32 bits.
 const MOST: usize = 0x1_0000_0000;
 
-// Whether so many paths have numbers of 32 bits.
-fn has_room(count: usize) -> bool
+/// Whether so many paths have numbers of 32 bits.
+pub(crate) fn has_room(count: usize) -> bool
     ensures { IsTrue result ↔ count ≤ 2 ^ 32 }
 {
     count <= MOST

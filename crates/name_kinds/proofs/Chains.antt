@@ -4,7 +4,7 @@ use Rattle.std.specs.Prelude.{if◌then◌else◌, ◌⊎◌}
 use Rattle.acpi_values.specs.Paths.{NameSeg, AbsolutePath, is_same_path}
 use Rattle.acpi_state.specs.Objects.{Object, lookup, without}
 use Rattle.acpi_state.proofs.Lookups.{is_same_path-true}
-use Rattle.asl_tree.specs.Names.{Kind, Is, AliasTo, Known, kind_at, end_by, end_of}
+use Rattle.asl_tree.specs.Names.{NameKind, Is, AliasTo, Known, kind_at, end_by, end_of}
 
 abbrev Found : Type 0
 Found = AbsolutePath × Object
@@ -53,7 +53,7 @@ longer ks zero m p x le e = absurd (grind arith)
 longer ks (suc n) zero p x le e = absurd (omega (arith, le))
 longer ks (suc n) (suc m) p x le e = by_kind (kind_at ks p) e (λ q. longer ks n m q x (omega (arith, le)))
   where
-    by_kind : (o : Option Kind) → end_by o p (end_of ks n) ≡ Some x → ((q : AbsolutePath) → end_of ks n q ≡ Some x → end_of ks m q ≡ Some x) → end_by o p (end_of ks m) ≡ Some x
+    by_kind : (o : Option NameKind) → end_by o p (end_of ks n) ≡ Some x → ((q : AbsolutePath) → end_of ks n q ≡ Some x → end_of ks m q ≡ Some x) → end_by o p (end_of ks m) ≡ Some x
     by_kind None e go = absurd (grind arith)
     by_kind (Some (Is object)) e go = e
     by_kind (Some (AliasTo None)) e go = absurd (grind arith)
@@ -64,7 +64,7 @@ fewer : (ks : Known) (seg : NameSeg) (scope : AbsolutePath) (n : ℕ) (q : Absol
 fewer ks seg scope zero q x e = absurd (grind arith)
 fewer ks seg scope (suc n) q x e = by_same (is_same_path (seg ∷ scope) q) refl (λ r. fewer ks seg scope n r x)
   where
-    by_kind : (o : Option Kind) → end_by o q (end_of (without (seg ∷ scope) ks) n) ≡ Some x → ((r : AbsolutePath) → end_of (without (seg ∷ scope) ks) n r ≡ Some x → end_of ks n r ≡ Some x) → end_by o q (end_of ks n) ≡ Some x
+    by_kind : (o : Option NameKind) → end_by o q (end_of (without (seg ∷ scope) ks) n) ≡ Some x → ((r : AbsolutePath) → end_of (without (seg ∷ scope) ks) n r ≡ Some x → end_of ks n r ≡ Some x) → end_by o q (end_of ks n) ≡ Some x
     by_kind None e go = absurd (grind arith)
     by_kind (Some (Is object)) e go = e
     by_kind (Some (AliasTo None)) e go = absurd (grind arith)
@@ -87,7 +87,7 @@ avoid : (ks : Known) (p : AbsolutePath) (n : ℕ) (q : AbsolutePath) (x : Found)
 avoid ks p zero q x e = absurd (grind arith)
 avoid ks p (suc n) q x e = by_same (is_same_path p q) refl (λ r. avoid ks p n r x)
   where
-    by_kind : (o : Option Kind) → kind_at ks q ≡ o → is_same_path p q ≡ false → end_by o q (end_of ks n) ≡ Some x → ((r : AbsolutePath) → end_of ks n r ≡ Some x → (end_of (without p ks) n r ≡ Some x) ⊎ Through ks p n x) → (end_of (without p ks) (suc n) q ≡ Some x) ⊎ Through ks p (suc n) x
+    by_kind : (o : Option NameKind) → kind_at ks q ≡ o → is_same_path p q ≡ false → end_by o q (end_of ks n) ≡ Some x → ((r : AbsolutePath) → end_of ks n r ≡ Some x → (end_of (without p ks) n r ≡ Some x) ⊎ Through ks p n x) → (end_of (without p ks) (suc n) q ≡ Some x) ⊎ Through ks p (suc n) x
     by_kind None k h e go = absurd (grind arith)
     by_kind (Some (Is object)) k h e go = inl (ap (λ o. end_by o q (end_of (without p ks) n)) (kind_other ks p q h ∙ k) ∙ e)
     by_kind (Some (AliasTo None)) k h e go = absurd (grind arith)
@@ -107,7 +107,7 @@ within_bound zero (suc n) le ks p x e = absurd (omega (arith, le))
 within_bound (suc b) (suc n) le ks [] x e = e
 within_bound (suc b) (suc n) le ks (seg ∷ scope) x e = by_kind (lookup ks (seg ∷ scope)) refl e (within_bound b)
   where
-    by_kind : (o : Option Kind) → lookup ks (seg ∷ scope) ≡ o → end_by o (seg ∷ scope) (end_of ks n) ≡ Some x → ((n : ℕ) → n ≤ b → (ks : Known) (p : AbsolutePath) (x : Found) → end_of ks n p ≡ Some x → end_of ks (suc (length ks)) p ≡ Some x) → end_by (lookup ks (seg ∷ scope)) (seg ∷ scope) (end_of ks (length ks)) ≡ Some x
+    by_kind : (o : Option NameKind) → lookup ks (seg ∷ scope) ≡ o → end_by o (seg ∷ scope) (end_of ks n) ≡ Some x → ((n : ℕ) → n ≤ b → (ks : Known) (p : AbsolutePath) (x : Found) → end_of ks n p ≡ Some x → end_of ks (suc (length ks)) p ≡ Some x) → end_by (lookup ks (seg ∷ scope)) (seg ∷ scope) (end_of ks (length ks)) ≡ Some x
     by_kind None k e go = absurd (grind arith)
     by_kind (Some (Is object)) k e go = ap (λ o. end_by o (seg ∷ scope) (end_of ks (length ks))) k ∙ e
     by_kind (Some (AliasTo None)) k e go = absurd (grind arith)

@@ -11,7 +11,7 @@ use Rattle.asl_tree.specs.Names.{Known, AliasTo, kind_at, end_by, end_of}
 use Rattle.acpi_names.specs.Errors.{final}
 use Rattle.name_kinds.specs.Ends.{AreEnds, AreMarked, IsMarked, ended}
 use Rattle.name_kinds.specs.declared.kind.End.{End}
-use Rattle.name_kinds.specs.declared.ends.Mark.{Mark}
+use Rattle.name_kinds.specs.declared.ends.WalkState.{WalkState}
 use Rattle.name_kinds.specs.declared.ends.Walks.{Walks}
 use Rattle.name_kinds.proofs.Chains.{longer, finite}
 
@@ -60,96 +60,97 @@ circle known p b = by_count (suc (length known))
     by_count (suc n) = b.later n (by_count n)
 
 -- one mark is written
-set_cases : (marks : List Mark) (at n : ℕ) (m x : Mark) → at < length marks → get_or (set marks at m) n Mark.New ≡ x → ((at ≡ n) × (m ≡ x)) ⊎ ((at ≡ n → ⊥) × (get_or marks n Mark.New ≡ x))
+set_cases : (marks : List WalkState) (at n : ℕ) (m x : WalkState) → at < length marks → get_or (set marks at m) n WalkState.New ≡ x → ((at ≡ n) × (m ≡ x)) ⊎ ((at ≡ n → ⊥) × (get_or marks n WalkState.New ≡ x))
 set_cases marks at n m x lt e = by_place (nat_eq at n) refl
   where
-    by_place : (c : Bool) → nat_eq at n ≡ c → ((at ≡ n) × (m ≡ x)) ⊎ ((at ≡ n → ⊥) × (get_or marks n Mark.New ≡ x))
+    by_place : (c : Bool) → nat_eq at n ≡ c → ((at ≡ n) × (m ≡ x)) ⊎ ((at ≡ n → ⊥) × (get_or marks n WalkState.New ≡ x))
     by_place true c =
         let same : at ≡ n = eqb-true at n c in
-        inl (same, sym (ap (λ k. get_or (set marks at m) k Mark.New) (sym same) ∙ get_or-set_same marks at m Mark.New lt) ∙ e)
+        inl (same, sym (ap (λ k. get_or (set marks at m) k WalkState.New) (sym same) ∙ get_or-set_same marks at m WalkState.New lt) ∙ e)
     by_place false c =
         let other : at ≡ n → ⊥ = grind (arith, nat_tests, c) in
-        inr (other, sym (get_or-set_other marks at n m Mark.New (λ e. other (sym e))) ∙ e)
+        inr (other, sym (get_or-set_other marks at n m WalkState.New (λ e. other (sym e))) ∙ e)
 
-pub marked_kept : (marks : List Mark) (at n : ℕ) (m : Mark) → at < length marks → (m ≡ Mark.New → ⊥) → IsMarked marks n → IsMarked (set marks at m) n
-marked_kept marks at n m lt old marked e = by_case (set_cases marks at n m Mark.New lt e)
+pub marked_kept : (marks : List WalkState) (at n : ℕ) (m : WalkState) → at < length marks → (m ≡ WalkState.New → ⊥) → IsMarked marks n → IsMarked (set marks at m) n
+marked_kept marks at n m lt old marked e = by_case (set_cases marks at n m WalkState.New lt e)
   where
-    by_case : ((at ≡ n) × (m ≡ Mark.New)) ⊎ ((at ≡ n → ⊥) × (get_or marks n Mark.New ≡ Mark.New)) → ⊥
+    by_case : ((at ≡ n) × (m ≡ WalkState.New)) ⊎ ((at ≡ n → ⊥) × (get_or marks n WalkState.New ≡ WalkState.New)) → ⊥
     by_case (inl here) = old here.1
     by_case (inr there) = marked there.1
 
-pub marked_here : (marks : List Mark) (at : ℕ) (m : Mark) → at < length marks → (m ≡ Mark.New → ⊥) → IsMarked (set marks at m) at
-marked_here marks at m lt old e = by_case (set_cases marks at at m Mark.New lt e)
+pub marked_here : (marks : List WalkState) (at : ℕ) (m : WalkState) → at < length marks → (m ≡ WalkState.New → ⊥) → IsMarked (set marks at m) at
+marked_here marks at m lt old e = by_case (set_cases marks at at m WalkState.New lt e)
   where
-    by_case : ((at ≡ at) × (m ≡ Mark.New)) ⊎ ((at ≡ at → ⊥) × (get_or marks at Mark.New ≡ Mark.New)) → ⊥
+    by_case : ((at ≡ at) × (m ≡ WalkState.New)) ⊎ ((at ≡ at → ⊥) × (get_or marks at WalkState.New ≡ WalkState.New)) → ⊥
     by_case (inl here) = old here.1
     by_case (inr there) = there.0 refl
 
-pub walk_is_marked : Mark.OnWalk ≡ Mark.New → ⊥
+pub walk_is_marked : WalkState.OnWalk ≡ WalkState.New → ⊥
 walk_is_marked e = cc
 
-pub end_is_marked : Mark.Ended ≡ Mark.New → ⊥
+pub end_is_marked : WalkState.Ended ≡ WalkState.New → ⊥
 end_is_marked e = cc
 
 -- the first path of a walk is marked with the others
-pub started : (marks : List Mark) (at start : ℕ) → at < length marks → (get_or marks start Mark.New ≡ Mark.New → at ≡ start) → IsMarked (set marks at Mark.OnWalk) start
-started marks at start lt same e = by_case (set_cases marks at start Mark.OnWalk Mark.New lt e)
+pub started : (marks : List WalkState) (at start : ℕ) → at < length marks → (get_or marks start WalkState.New ≡ WalkState.New → at ≡ start) → IsMarked (set marks at WalkState.OnWalk) start
+started marks at start lt same e = by_case (set_cases marks at start WalkState.OnWalk WalkState.New lt e)
   where
-    by_case : ((at ≡ start) × (Mark.OnWalk ≡ Mark.New)) ⊎ ((at ≡ start → ⊥) × (get_or marks start Mark.New ≡ Mark.New)) → ⊥
+    by_case : ((at ≡ start) × (WalkState.OnWalk ≡ WalkState.New)) ⊎ ((at ≡ start → ⊥) × (get_or marks start WalkState.New ≡ WalkState.New)) → ⊥
     by_case (inl here) = walk_is_marked here.1
     by_case (inr there) = there.0 (same there.1)
 
 -- how many paths are not followed yet
-abbrev pub left : List Mark → ℕ
+abbrev pub left : List WalkState → ℕ
 left [] = 0
-left (Mark.New ∷ marks) = suc (left marks)
-left (Mark.OnWalk ∷ marks) = left marks
-left (Mark.Ended ∷ marks) = left marks
+left (WalkState.New ∷ marks) = suc (left marks)
+left (WalkState.OnWalk ∷ marks) = left marks
+left (WalkState.Ended ∷ marks) = left marks
 
-pub fewer_left : (marks : List Mark) (at : ℕ) → at < length marks → get_or marks at Mark.New ≡ Mark.New → left (set marks at Mark.OnWalk) < left marks
+pub fewer_left : (marks : List WalkState) (at : ℕ) → at < length marks → get_or marks at WalkState.New ≡ WalkState.New → left (set marks at WalkState.OnWalk) < left marks
 fewer_left [] at lt e = absurd (omega (arith, lt))
-fewer_left (Mark.New ∷ marks) zero lt e = omega arith
-fewer_left (Mark.OnWalk ∷ marks) zero lt e = absurd (cc)
-fewer_left (Mark.Ended ∷ marks) zero lt e = absurd (cc)
-fewer_left (Mark.New ∷ marks) (suc at) lt e = omega (arith, fewer_left marks at (omega (arith, lt)) e)
-fewer_left (Mark.OnWalk ∷ marks) (suc at) lt e = fewer_left marks at (omega (arith, lt)) e
-fewer_left (Mark.Ended ∷ marks) (suc at) lt e = fewer_left marks at (omega (arith, lt)) e
+fewer_left (WalkState.New ∷ marks) zero lt e = omega arith
+fewer_left (WalkState.OnWalk ∷ marks) zero lt e = absurd (cc)
+fewer_left (WalkState.Ended ∷ marks) zero lt e = absurd (cc)
+fewer_left (WalkState.New ∷ marks) (suc at) lt e = omega (arith, fewer_left marks at (omega (arith, lt)) e)
+fewer_left (WalkState.OnWalk ∷ marks) (suc at) lt e = fewer_left marks at (omega (arith, lt)) e
+fewer_left (WalkState.Ended ∷ marks) (suc at) lt e = fewer_left marks at (omega (arith, lt)) e
 
 -- a path comes onto the walk
-pub entered : (paths : List AbsolutePath) (known : Known) (old new : Walks) (at : ℕ) → at < length paths → new.marks.items ≡ set old.marks.items at Mark.OnWalk → new.ends.items ≡ old.ends.items → new.chain.items ≡ old.chain.items ++ at ∷ [] → AreMarked paths known old → AreMarked paths known new
+pub entered : (paths : List AbsolutePath) (known : Known) (old new : Walks) (at : ℕ) → at < length paths → new.marks.items ≡ set old.marks.items at WalkState.OnWalk → new.ends.items ≡ old.ends.items → new.chain.items ≡ old.chain.items ++ at ∷ [] → AreMarked paths known old → AreMarked paths known new
 entered paths known old new at lt marks ends chain walked = record {
-  marks = ap length marks ∙ length-set old.marks.items at Mark.OnWalk ∙ walked.marks;
+  marks = ap length marks ∙ length-set old.marks.items at WalkState.OnWalk ∙ walked.marks;
   ends = ap length ends ∙ walked.ends;
-  reached = λ n e. is_ended n (set_cases old.marks.items at n Mark.OnWalk Mark.Ended (omega (arith, lt, walked.marks)) (sym (ap (λ ms. get_or ms n Mark.New) marks) ∙ e));
-  walking = λ n e. subst (λ c. Contains c n) (sym chain) (is_walking n (set_cases old.marks.items at n Mark.OnWalk Mark.OnWalk (omega (arith, lt, walked.marks)) (sym (ap (λ ms. get_or ms n Mark.New) marks) ∙ e)));
+  reached = λ n e. is_ended n (set_cases old.marks.items at n WalkState.OnWalk WalkState.Ended (omega (arith, lt, walked.marks)) (sym (ap (λ ms. get_or ms n WalkState.New) marks) ∙ e));
+  walking = λ n e. subst (λ c. Contains c n) (sym chain) (is_walking n (set_cases old.marks.items at n WalkState.OnWalk WalkState.OnWalk (omega (arith, lt, walked.marks)) (sym (ap (λ ms. get_or ms n WalkState.New) marks) ∙ e)));
   inside = All-same (λ n. n < length paths) new.chain.items (old.chain.items ++ at ∷ []) chain (All-push (λ n. n < length paths) old.chain.items at walked.inside lt);
 }
   where
-    is_ended : (n : ℕ) → ((at ≡ n) × (Mark.OnWalk ≡ Mark.Ended)) ⊎ ((at ≡ n → ⊥) × (get_or old.marks.items n Mark.New ≡ Mark.Ended)) → ended paths (get_or new.ends.items n None) ≡ final known (get_or paths n [])
+    is_ended : (n : ℕ) → ((at ≡ n) × (WalkState.OnWalk ≡ WalkState.Ended)) ⊎ ((at ≡ n → ⊥) × (get_or old.marks.items n WalkState.New ≡ WalkState.Ended)) → ended paths (get_or new.ends.items n None) ≡ final known (get_or paths n [])
     is_ended n (inl here) = absurd (let e = here.1 in cc)
     is_ended n (inr there) = ap (λ es. ended paths (get_or es n None)) ends ∙ walked.reached n there.1
 
-    is_walking : (n : ℕ) → ((at ≡ n) × (Mark.OnWalk ≡ Mark.OnWalk)) ⊎ ((at ≡ n → ⊥) × (get_or old.marks.items n Mark.New ≡ Mark.OnWalk)) → Contains (old.chain.items ++ at ∷ []) n
+    is_walking : (n : ℕ) → ((at ≡ n) × (WalkState.OnWalk ≡ WalkState.OnWalk)) ⊎ ((at ≡ n → ⊥) × (get_or old.marks.items n WalkState.New ≡ WalkState.OnWalk)) → Contains (old.chain.items ++ at ∷ []) n
     is_walking n (inl here) = subst (Contains (old.chain.items ++ at ∷ [])) here.0 (Contains-push old.chain.items at)
     is_walking n (inr there) = Contains-append_left old.chain.items (at ∷ []) n (walked.walking n there.1)
 
 -- a path comes off the walk, to its end
-pub settled : (paths : List AbsolutePath) (known : Known) (old new : Walks) (at : ℕ) (end : Option End) → at < length paths → new.marks.items ≡ set old.marks.items at Mark.Ended → new.ends.items ≡ set old.ends.items at end → old.chain.items ≡ new.chain.items ++ at ∷ [] → final known (get_or paths at []) ≡ ended paths end → All (λ n. n < length paths) new.chain.items → AreMarked paths known old → AreMarked paths known new
+pub settled : (paths : List AbsolutePath) (known : Known) (old new : Walks) (at : ℕ) (end : Option End) → at < length paths → new.marks.items ≡ set old.marks.items at WalkState.Ended → new.ends.items ≡ set old.ends.items at end → old.chain.items ≡ new.chain.items ++ at ∷ [] → final known (get_or paths at []) ≡ ended paths end
+    → All (λ n. n < length paths) new.chain.items → AreMarked paths known old → AreMarked paths known new
 settled paths known old new at end lt marks ends chain h inside walked = record {
-  marks = ap length marks ∙ length-set old.marks.items at Mark.Ended ∙ walked.marks;
+  marks = ap length marks ∙ length-set old.marks.items at WalkState.Ended ∙ walked.marks;
   ends = ap length ends ∙ length-set old.ends.items at end ∙ walked.ends;
-  reached = λ n e. is_ended n (set_cases old.marks.items at n Mark.Ended Mark.Ended (omega (arith, lt, walked.marks)) (sym (ap (λ ms. get_or ms n Mark.New) marks) ∙ e));
-  walking = λ n e. is_walking n (set_cases old.marks.items at n Mark.Ended Mark.OnWalk (omega (arith, lt, walked.marks)) (sym (ap (λ ms. get_or ms n Mark.New) marks) ∙ e));
+  reached = λ n e. is_ended n (set_cases old.marks.items at n WalkState.Ended WalkState.Ended (omega (arith, lt, walked.marks)) (sym (ap (λ ms. get_or ms n WalkState.New) marks) ∙ e));
+  walking = λ n e. is_walking n (set_cases old.marks.items at n WalkState.Ended WalkState.OnWalk (omega (arith, lt, walked.marks)) (sym (ap (λ ms. get_or ms n WalkState.New) marks) ∙ e));
   inside = inside;
 }
   where
-    is_ended : (n : ℕ) → ((at ≡ n) × (Mark.Ended ≡ Mark.Ended)) ⊎ ((at ≡ n → ⊥) × (get_or old.marks.items n Mark.New ≡ Mark.Ended)) → ended paths (get_or new.ends.items n None) ≡ final known (get_or paths n [])
+    is_ended : (n : ℕ) → ((at ≡ n) × (WalkState.Ended ≡ WalkState.Ended)) ⊎ ((at ≡ n → ⊥) × (get_or old.marks.items n WalkState.New ≡ WalkState.Ended)) → ended paths (get_or new.ends.items n None) ≡ final known (get_or paths n [])
     is_ended n (inl here) =
         subst (λ k. ended paths (get_or new.ends.items k None) ≡ final known (get_or paths k [])) here.0
         (ap (ended paths) (ap (λ es. get_or es at None) ends ∙ get_or-set_same old.ends.items at end None (omega (arith, lt, walked.ends))) ∙ sym h)
     is_ended n (inr there) = ap (ended paths) (ap (λ es. get_or es n None) ends ∙ get_or-set_other old.ends.items at n end None (λ e. there.0 (sym e))) ∙ walked.reached n there.1
 
-    is_walking : (n : ℕ) → ((at ≡ n) × (Mark.Ended ≡ Mark.OnWalk)) ⊎ ((at ≡ n → ⊥) × (get_or old.marks.items n Mark.New ≡ Mark.OnWalk)) → Contains new.chain.items n
+    is_walking : (n : ℕ) → ((at ≡ n) × (WalkState.Ended ≡ WalkState.OnWalk)) ⊎ ((at ≡ n → ⊥) × (get_or old.marks.items n WalkState.New ≡ WalkState.OnWalk)) → Contains new.chain.items n
     is_walking n (inl here) = absurd (let e = here.1 in cc)
     is_walking n (inr there) = not_here (Contains-push_cases new.chain.items at n (subst (λ c. Contains c n) chain (walked.walking n there.1)))
       where
@@ -162,8 +163,8 @@ pub emptied : (paths : List AbsolutePath) (known : Known) (old new : Walks) → 
 emptied paths known old new marks ends none left walked = record {
   marks = ap length marks ∙ walked.marks;
   ends = ap length ends ∙ walked.ends;
-  reached = λ n e. ap (λ es. ended paths (get_or es n None)) ends ∙ walked.reached n (sym (ap (λ ms. get_or ms n Mark.New) marks) ∙ e);
-  walking = λ n e. absurd (let there = walked.walking n (sym (ap (λ ms. get_or ms n Mark.New) marks) ∙ e) in omega (arith, there.1, none));
+  reached = λ n e. ap (λ es. ended paths (get_or es n None)) ends ∙ walked.reached n (sym (ap (λ ms. get_or ms n WalkState.New) marks) ∙ e);
+  walking = λ n e. absurd (let there = walked.walking n (sym (ap (λ ms. get_or ms n WalkState.New) marks) ∙ e) in omega (arith, there.1, none));
   inside = λ k d lt. absurd (omega (arith, lt, left));
 }
 
@@ -190,27 +191,27 @@ returns_here paths known chain at here behind =
     stops paths known chain at None (sym none) behind
 
 -- no path is followed yet
-fresh_mark : (count n : ℕ) → get_or (replicate count Mark.New) n Mark.New ≡ Mark.New
+fresh_mark : (count n : ℕ) → get_or (replicate count WalkState.New) n WalkState.New ≡ WalkState.New
 fresh_mark count n = by_within (nat_lt n count) refl
   where
-    by_within : (c : Bool) → nat_lt n count ≡ c → get_or (replicate count Mark.New) n Mark.New ≡ Mark.New
-    by_within true c = get_or-replicate count n Mark.New Mark.New (let lt : n < count = grind (arith, nat_tests, c) in lt)
-    by_within false c = get_or_past (replicate count Mark.New) n Mark.New (let le : count ≤ n = grind (arith, nat_tests, c) in omega (arith, le, length-replicate count Mark.New))
+    by_within : (c : Bool) → nat_lt n count ≡ c → get_or (replicate count WalkState.New) n WalkState.New ≡ WalkState.New
+    by_within true c = get_or-replicate count n WalkState.New WalkState.New (let lt : n < count = grind (arith, nat_tests, c) in lt)
+    by_within false c = get_or_past (replicate count WalkState.New) n WalkState.New (let le : count ≤ n = grind (arith, nat_tests, c) in omega (arith, le, length-replicate count WalkState.New))
 
-pub unwalked_marked : (paths : List AbsolutePath) (known : Known) (walks : Walks) → walks.marks.items ≡ replicate (length paths) Mark.New → length walks.ends.items ≡ length paths → walks.chain.items ≡ [] → AreMarked paths known walks
+pub unwalked_marked : (paths : List AbsolutePath) (known : Known) (walks : Walks) → walks.marks.items ≡ replicate (length paths) WalkState.New → length walks.ends.items ≡ length paths → walks.chain.items ≡ [] → AreMarked paths known walks
 unwalked_marked paths known walks marks ends chain = record {
-  marks = ap length marks ∙ length-replicate (length paths) Mark.New;
+  marks = ap length marks ∙ length-replicate (length paths) WalkState.New;
   ends = ends;
   reached = λ n e. absurd (let y = sym (fresh n) ∙ e in cc);
   walking = λ n e. absurd (let y = sym (fresh n) ∙ e in cc);
   inside = All-same (λ n. n < length paths) walks.chain.items [] chain (All-nil (λ n. n < length paths));
 }
   where
-    fresh : (n : ℕ) → get_or walks.marks.items n Mark.New ≡ Mark.New
-    fresh n = ap (λ ms. get_or ms n Mark.New) marks ∙ fresh_mark (length paths) n
+    fresh : (n : ℕ) → get_or walks.marks.items n WalkState.New ≡ WalkState.New
+    fresh n = ap (λ ms. get_or ms n WalkState.New) marks ∙ fresh_mark (length paths) n
 
 -- one path more is followed
-pub one_more : (old new : List Mark) (i : ℕ) → ((n : ℕ) → n < i → IsMarked old n) → ((n : ℕ) → IsMarked old n → IsMarked new n) → IsMarked new i → (n : ℕ) → n < i + 1 → IsMarked new n
+pub one_more : (old new : List WalkState) (i : ℕ) → ((n : ℕ) → n < i → IsMarked old n) → ((n : ℕ) → IsMarked old n → IsMarked new n) → IsMarked new i → (n : ℕ) → n < i + 1 → IsMarked new n
 one_more old new i before kept here n lt = by_place (nat_lt n i) refl
   where
     by_place : (c : Bool) → nat_lt n i ≡ c → IsMarked new n
@@ -219,12 +220,12 @@ one_more old new i before kept here n lt = by_place (nat_lt n i) refl
 
 -- all are followed
 pub all_ended : (paths : List AbsolutePath) (known : Known) (walks : Walks) (i : ℕ) → AreMarked paths known walks → walks.chain.items ≡ [] → length paths ≤ i → ((n : ℕ) → n < i → IsMarked walks.marks.items n) → AreEnds paths walks.ends.items known
-all_ended paths known walks i walked idle le done = record { size = walked.ends; each = λ n lt. by_mark n lt (get_or walks.marks.items n Mark.New) refl }
+all_ended paths known walks i walked idle le done = record { size = walked.ends; each = λ n lt. by_mark n lt (get_or walks.marks.items n WalkState.New) refl }
   where
     none_there : (n : ℕ) → Contains walks.chain.items n → ⊥
     none_there n there = let at = subst (λ c. Contains c n) idle there in absurd (omega (arith, at.1))
 
-    by_mark : (n : ℕ) → n < length paths → (m : Mark) → get_or walks.marks.items n Mark.New ≡ m → ended paths (get_or walks.ends.items n None) ≡ final known (get_or paths n [])
-    by_mark n lt Mark.New e = absurd (done n (omega (arith, lt, le)) e)
-    by_mark n lt Mark.OnWalk e = absurd (none_there n (walked.walking n e))
-    by_mark n lt Mark.Ended e = walked.reached n e
+    by_mark : (n : ℕ) → n < length paths → (m : WalkState) → get_or walks.marks.items n WalkState.New ≡ m → ended paths (get_or walks.ends.items n None) ≡ final known (get_or paths n [])
+    by_mark n lt WalkState.New e = absurd (done n (omega (arith, lt, le)) e)
+    by_mark n lt WalkState.OnWalk e = absurd (none_there n (walked.walking n e))
+    by_mark n lt WalkState.Ended e = walked.reached n e

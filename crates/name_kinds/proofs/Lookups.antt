@@ -8,7 +8,7 @@ use Rattle.acpi_values.specs.Paths.{NameSeg, AbsolutePath, is_same_path}
 use Rattle.acpi_state.specs.Objects.{ExternalObject, Names, lookup, as_declared, root_objects, Object}
 use Rattle.acpi_state.specs.Outcomes.{choose}
 use Rattle.acpi_state.proofs.Lookups.{is_same_path-true}
-use Rattle.asl_tree.specs.Names.{Is, Kind, Known, kind_at}
+use Rattle.asl_tree.specs.Names.{Is, NameKind, Known, kind_at}
 use Rattle.asl_meaning.specs.Declarations.{Declared, ExternalType, kind_of, declared_kinds, external_names, external_object, as_known, is_named}
 use Rattle.name_kinds.specs.Kinds.{at_root, kind_from}
 
@@ -48,7 +48,8 @@ pub lookup_external : (calls : List (AbsolutePath × ℕ)) (es : List (AbsoluteP
 lookup_external calls [] path = refl
 lookup_external calls (e ∷ es) path = by_same (is_same_path e.0 path) refl (lookup_external calls es path)
   where
-    by_same : (c : Bool) → is_same_path e.0 path ≡ c → lookup (external_names calls es) path ≡ option_map (λ e. ExternalObject (external_object e (lookup calls path))) (lookup es path) → (if c then Some (ExternalObject (external_object e.1 (lookup calls e.0))) else lookup (external_names calls es) path) ≡ option_map (λ e. ExternalObject (external_object e (lookup calls path))) (if c then Some e.1 else lookup es path)
+    by_same : (c : Bool) → is_same_path e.0 path ≡ c → lookup (external_names calls es) path ≡ option_map (λ e. ExternalObject (external_object e (lookup calls path))) (lookup es path)
+        → (if c then Some (ExternalObject (external_object e.1 (lookup calls e.0))) else lookup (external_names calls es) path) ≡ option_map (λ e. ExternalObject (external_object e (lookup calls path))) (if c then Some e.1 else lookup es path)
     by_same true same h = ap (λ p. Some (ExternalObject (external_object e.1 (lookup calls p)))) (is_same_path-true e.0 path same)
     by_same false same h = h
 
@@ -92,7 +93,7 @@ from_four kinds calls es path =
     ∙ ap (λ ns. choose (lookup kinds path) (lookup ns path) Some) (sym (known_append (external_names calls es) root_objects))
     ∙ sym (lookup_append kinds (as_known (external_names calls es ++ root_objects)) path)
   where
-    by_four : (k : Option Kind) (e : Option ExternalType) (r : Option Object) → kind_from k e (lookup calls path) r ≡ choose k (choose (option_map (λ o. Is (as_declared o)) (option_map (λ e. ExternalObject (external_object e (lookup calls path))) e)) (option_map Is r) Some) Some
+    by_four : (k : Option NameKind) (e : Option ExternalType) (r : Option Object) → kind_from k e (lookup calls path) r ≡ choose k (choose (option_map (λ o. Is (as_declared o)) (option_map (λ e. ExternalObject (external_object e (lookup calls path))) e)) (option_map Is r) Some) Some
     by_four (Some k) e r = refl
     by_four None (Some e) r = refl
     by_four None None (Some r) = refl
@@ -103,5 +104,5 @@ kind_known whole known [] e = absurd (grind arith)
 kind_known whole known (seg ∷ scope) e =
     from_four (declared_kinds (is_named whole.all) whole.all.declared) whole.calls whole.all.external (seg ∷ scope) ∙ ap (λ ns. lookup ns (seg ∷ scope)) (sym known)
 
-pub kind_same : (a b : Option Kind) (e f : Option ExternalType) (m n : Option ℕ) (o p : Option Object) → a ≡ b → e ≡ f → m ≡ n → o ≡ p → kind_from a e m o ≡ kind_from b f n p
+pub kind_same : (a b : Option NameKind) (e f : Option ExternalType) (m n : Option ℕ) (o p : Option Object) → a ≡ b → e ≡ f → m ≡ n → o ≡ p → kind_from a e m o ≡ kind_from b f n p
 kind_same a b e f m n o p h i j k = ap (λ x. kind_from x e m o) h ∙ ap (λ x. kind_from b x m o) i ∙ ap (λ x. kind_from b f x o) j ∙ ap (kind_from b f n) k

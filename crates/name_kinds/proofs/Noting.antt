@@ -9,7 +9,7 @@ use Rattle.acpi_state.proofs.Lookups.{is_same_path-true}
 use Rattle.acpi_names.specs.Parts.{Agrees}
 use Rattle.acpi_names.specs.Paths.{number_in, is_flagged, AreDistinct}
 use Rattle.acpi_names.specs.Tables.{entry_at, Tabled}
-use Rattle.name_kinds.specs.Tables.{TabledBy, Notes}
+use Rattle.name_kinds.specs.Tables.{TabledBy, TablesSay}
 use Rattle.name_kinds.specs.Kinds.{kind_as, type_as}
 use Rattle.name_kinds.specs.declared.tables.Tables.{Tables}
 use Rattle.asl_meaning.specs.Declarations.{ExternalType, Declarations, declared_kinds, is_named, with_first, with_external}
@@ -19,7 +19,8 @@ use Rattle.name_kinds.proofs.Entries.{entry_set, entry_here}
 use Rattle.name_kinds.proofs.Lookups.{lookup_append}
 
 -- a path is said to be something else from now on
-pub look_set : {A B : Type 0} (view : A → B) (paths : List AbsolutePath) (table : List (Option A)) (n : ℕ) (a : A) (b : B) (look : AbsolutePath → Option B) → AreDistinct paths → n < length paths → length table ≡ length paths → view a ≡ b → TabledBy view paths table look → (path : AbsolutePath) → option_map view (entry_at (set table n (Some a)) (number_in paths path)) ≡ (if is_same_path (get_or paths n []) path then Some b else look path)
+pub look_set : {A B : Type 0} (view : A → B) (paths : List AbsolutePath) (table : List (Option A)) (n : ℕ) (a : A) (b : B) (look : AbsolutePath → Option B) → AreDistinct paths → n < length paths → length table ≡ length paths → view a ≡ b → TabledBy view paths table look → (path : AbsolutePath)
+    → option_map view (entry_at (set table n (Some a)) (number_in paths path)) ≡ (if is_same_path (get_or paths n []) path then Some b else look path)
 look_set view paths table n a b look distinct lt size e tabled path =
     ap (option_map view) (entry_set paths table n a distinct lt size path) ∙ by_same (is_same_path (get_or paths n []) path)
   where
@@ -62,22 +63,22 @@ read_at {A} (y ∷ xs) (suc n) x d lt e = read_at xs n x d (omega (arith, lt)) e
 
 -- the first External of a path, and a later one
 pub first_noted : (paths : List AbsolutePath) (has : AbsolutePath → Bool) (new : Tables) (calls : List (AbsolutePath × ℕ)) (d : Declarations) (p : AbsolutePath) (t : ExternalType) → lookup d.external p ≡ None
-    → Notes paths has new calls (record d { external = (p, t) ∷ d.external }) → Notes paths has new calls (record d { external = with_first p t d.external })
+    → TablesSay paths has new calls (record d { external = (p, t) ∷ d.external }) → TablesSay paths has new calls (record d { external = with_first p t d.external })
 first_noted paths has new calls d p t none notes =
-    subst (λ (o : Option ExternalType). Notes paths has new calls (record d { external = choose o ((p, t) ∷ d.external) (λ first. d.external) })) (sym none) notes
+    subst (λ (o : Option ExternalType). TablesSay paths has new calls (record d { external = choose o ((p, t) ∷ d.external) (λ first. d.external) })) (sym none) notes
 
 pub later_noted : (paths : List AbsolutePath) (has : AbsolutePath → Bool) (new : Tables) (calls : List (AbsolutePath × ℕ)) (d : Declarations) (p : AbsolutePath) (t first : ExternalType) → lookup d.external p ≡ Some first
-    → Notes paths has new calls d → Notes paths has new calls (record d { external = with_first p t d.external })
+    → TablesSay paths has new calls d → TablesSay paths has new calls (record d { external = with_first p t d.external })
 later_noted paths has new calls d p t first there notes =
-    subst (λ (o : Option ExternalType). Notes paths has new calls (record d { external = choose o ((p, t) ∷ d.external) (λ first. d.external) })) (sym there) notes
+    subst (λ (o : Option ExternalType). TablesSay paths has new calls (record d { external = choose o ((p, t) ∷ d.external) (λ first. d.external) })) (sym there) notes
 
 pub outside_noted : (paths : List AbsolutePath) (has : AbsolutePath → Bool) (new : Tables) (calls : List (AbsolutePath × ℕ)) (d : Declarations) (p : AbsolutePath) (t : ExternalType) (b : Bool) → b ≡ false
-    → Notes paths has new calls (record d { external = with_first p t d.external }) → Notes paths has new calls (with_external b p t d)
-outside_noted paths has new calls d p t b e notes = subst (λ c. Notes paths has new calls (with_external c p t d)) (sym e) notes
+    → TablesSay paths has new calls (record d { external = with_first p t d.external }) → TablesSay paths has new calls (with_external b p t d)
+outside_noted paths has new calls d p t b e notes = subst (λ c. TablesSay paths has new calls (with_external c p t d)) (sym e) notes
 
 -- a mention that is no call
-pub noted_plain : (paths : List AbsolutePath) (has : AbsolutePath → Bool) (tables : Tables) (calls : List (AbsolutePath × ℕ)) (d : Declarations) → Notes paths has tables calls d → Notes paths has tables (calls ++ []) d
-noted_plain paths has tables calls d notes = subst (λ cs. Notes paths has tables cs d) (sym (right_nil calls)) notes
+pub noted_plain : (paths : List AbsolutePath) (has : AbsolutePath → Bool) (tables : Tables) (calls : List (AbsolutePath × ℕ)) (d : Declarations) → TablesSay paths has tables calls d → TablesSay paths has tables (calls ++ []) d
+noted_plain paths has tables calls d notes = subst (λ cs. TablesSay paths has tables cs d) (sym (right_nil calls)) notes
 
 -- the entry that is read is what is said of the path
 pub look_here : {A B : Type 0} (view : A → B) (paths : List AbsolutePath) (table : List (Option A)) (n : ℕ) (x : Option A) (look : AbsolutePath → Option B) → AreDistinct paths → n < length paths → length table ≡ length paths → x ≡ get_or table n x → TabledBy view paths table look → option_map view x ≡ look (get_or paths n [])

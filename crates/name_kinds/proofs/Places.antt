@@ -5,7 +5,7 @@ use Rattle.std.proofs.lemmas.List.{take_all, length-map, append_assoc}
 use Rattle.std.specs.Prelude.{◌||◌, is_some, if◌then◌else◌}
 use Rattle.acpi_values.specs.Paths.{AbsolutePath, is_same_path}
 use Rattle.acpi_state.specs.Objects.{lookup}
-use Rattle.asl_tree.specs.Names.{place_of}
+use Rattle.asl_tree.specs.Names.{declared_path}
 use Rattle.asl_meaning.specs.Declarations.{Declarations, in_root, is_named, with_external, nothing_declared, called}
 use Rattle.acpi_names.specs.Errors.{Whole}
 use Rattle.acpi_names.specs.Mentions.{Mention, Used', Sought, Called, Declares, Outside, Opens, after, after_all, call_in, calls_in}
@@ -13,7 +13,7 @@ use Rattle.acpi_names.specs.Shown.{shown, all_shown}
 use Rattle.acpi_names.specs.declared.mention.Mention.{Mention as CodeMention}
 use Rattle.acpi_names.proofs.Folds.{first_external}
 use Rattle.acpi_names.proofs.Numbers.{same_path_refl}
-use Rattle.name_kinds.specs.Tables.{IsThere, Notes, Notices}
+use Rattle.name_kinds.specs.Tables.{IsThere, TablesSay, Notices}
 use Rattle.name_kinds.specs.declared.tables.Tables.{Tables}
 
 or_right : (a : Bool) → (a || true) ≡ true
@@ -34,15 +34,15 @@ still_named (Used' asked at name scope) d path e = e
 still_named (Sought at name scope) d path e = e
 still_named (Called asked at name args scope) d path e = e
 still_named (Declares at name as' scope) d path e =
-    or_more (is_some (lookup d.declared path)) _ _ _ (some_more (is_same_path (place_of name scope) path) as' (lookup d.declared path)) (λ h. h) e
-still_named (Outside here at name type scope) d path e = by_root (in_root (place_of name scope))
+    or_more (is_some (lookup d.declared path)) _ _ _ (some_more (is_same_path (declared_path name scope) path) as' (lookup d.declared path)) (λ h. h) e
+still_named (Outside here at name type scope) d path e = by_root (in_root (declared_path name scope))
   where
-    by_root : (c : Bool) → is_named (with_external c (place_of name scope) type d) path ≡ true
+    by_root : (c : Bool) → is_named (with_external c (declared_path name scope) type d) path ≡ true
     by_root true = e
     by_root false =
         or_more (is_some (lookup d.declared path)) _ _ _ (λ h. h)
         (or_more (is_some (lookup d.external path)) _ _ _
-        (λ h. first_external (place_of name scope) path type d.external ∙ ap (λ b. is_same_path (place_of name scope) path || b) h ∙ or_right (is_same_path (place_of name scope) path)) (λ h. h)) e
+        (λ h. first_external (declared_path name scope) path type d.external ∙ ap (λ b. is_same_path (declared_path name scope) path || b) h ∙ or_right (is_same_path (declared_path name scope) path)) (λ h. h)) e
 still_named (Opens here at name scope inner) d path e = e
 
 all_named : (ms : List Mention) (d : Declarations) (path : AbsolutePath) → is_named d path ≡ true → is_named (after_all ms d) path ≡ true
@@ -55,17 +55,17 @@ named_behind (Used' asked at name scope) d all known calls f = tt
 named_behind (Sought at name scope) d all known calls f = tt
 named_behind (Called asked at name args scope) d all known calls f = tt
 named_behind (Declares at name as' scope) d all known calls f =
-    f (place_of name scope) (ap (λ b. is_some (if b then Some as' else lookup d.declared (place_of name scope)) || (is_some (lookup d.external (place_of name scope)) || in_root (place_of name scope))) (same_path_refl (place_of name scope)))
-named_behind (Outside here at name type scope) d all known calls f = f (place_of name scope) (by_root (in_root (place_of name scope)) refl)
+    f (declared_path name scope) (ap (λ b. is_some (if b then Some as' else lookup d.declared (declared_path name scope)) || (is_some (lookup d.external (declared_path name scope)) || in_root (declared_path name scope))) (same_path_refl (declared_path name scope)))
+named_behind (Outside here at name type scope) d all known calls f = f (declared_path name scope) (by_root (in_root (declared_path name scope)) refl)
   where
-    by_root : (c : Bool) → in_root (place_of name scope) ≡ c → is_named (with_external c (place_of name scope) type d) (place_of name scope) ≡ true
+    by_root : (c : Bool) → in_root (declared_path name scope) ≡ c → is_named (with_external c (declared_path name scope) type d) (declared_path name scope) ≡ true
     by_root true e =
-        ap (λ b. is_some (lookup d.declared (place_of name scope)) || (is_some (lookup d.external (place_of name scope)) || b)) e
-        ∙ ap (λ b. is_some (lookup d.declared (place_of name scope)) || b) (or_right (is_some (lookup d.external (place_of name scope)))) ∙ or_right (is_some (lookup d.declared (place_of name scope)))
+        ap (λ b. is_some (lookup d.declared (declared_path name scope)) || (is_some (lookup d.external (declared_path name scope)) || b)) e
+        ∙ ap (λ b. is_some (lookup d.declared (declared_path name scope)) || b) (or_right (is_some (lookup d.external (declared_path name scope)))) ∙ or_right (is_some (lookup d.declared (declared_path name scope)))
     by_root false e =
-        ap (λ b. is_some (lookup d.declared (place_of name scope)) || (b || in_root (place_of name scope)))
-        (first_external (place_of name scope) (place_of name scope) type d.external ∙ ap (λ b. b || is_some (lookup d.external (place_of name scope))) (same_path_refl (place_of name scope)))
-        ∙ or_right (is_some (lookup d.declared (place_of name scope)))
+        ap (λ b. is_some (lookup d.declared (declared_path name scope)) || (b || in_root (declared_path name scope)))
+        (first_external (declared_path name scope) (declared_path name scope) type d.external ∙ ap (λ b. b || is_some (lookup d.external (declared_path name scope))) (same_path_refl (declared_path name scope)))
+        ∙ or_right (is_some (lookup d.declared (declared_path name scope)))
 named_behind (Opens here at name scope inner) d all known calls f = tt
 
 -- one mention further
@@ -109,18 +109,20 @@ pub calls_next : (has : AbsolutePath → Bool) (ms : List Mention) (m : Mention)
 calls_next has ms m =
     ap called (calls_append has ms (m ∷ []) ∙ ap (λ zs. calls_in has ms ++ zs) (right_nil (call_in has m))) ∙ called_append (calls_in has ms) (call_in has m)
 
-pub notes_next : (paths : List AbsolutePath) (whole : Whole) (old new : Tables) (mentions : List CodeMention) (i : ℕ) (m : CodeMention) → i < length mentions → m ≡ get_or mentions i m → Notices paths whole old new (shown paths m) → Notes paths (is_named whole.all) old (called (calls_in (is_named whole.all) (take i (all_shown paths mentions)))) (after_all (take i (all_shown paths mentions)) nothing_declared) → Notes paths (is_named whole.all) new (called (calls_in (is_named whole.all) (take (i + 1) (all_shown paths mentions)))) (after_all (take (i + 1) (all_shown paths mentions)) nothing_declared)
+pub notes_next : (paths : List AbsolutePath) (whole : Whole) (old new : Tables) (mentions : List CodeMention) (i : ℕ) (m : CodeMention) → i < length mentions → m ≡ get_or mentions i m → Notices paths whole old new (shown paths m)
+    → TablesSay paths (is_named whole.all) old (called (calls_in (is_named whole.all) (take i (all_shown paths mentions)))) (after_all (take i (all_shown paths mentions)) nothing_declared) → TablesSay paths (is_named whole.all) new (called (calls_in (is_named whole.all) (take (i + 1) (all_shown paths mentions)))) (after_all (take (i + 1) (all_shown paths mentions)) nothing_declared)
 notes_next paths whole old new mentions i m lt e notices notes =
     let has = is_named whole.all in
     let before = take i (all_shown paths mentions) in
-    subst (λ ms. Notes paths has new (called (calls_in has ms)) (after_all ms nothing_declared)) (sym (next_taken paths mentions i m lt e))
-    (subst (λ cs. Notes paths has new cs (after_all (before ++ shown paths m ∷ []) nothing_declared)) (sym (calls_next has before (shown paths m)))
-    (subst (λ d. Notes paths has new (called (calls_in has before) ++ called (call_in has (shown paths m))) d) (sym (after_append before (shown paths m ∷ []) nothing_declared))
+    subst (λ ms. TablesSay paths has new (called (calls_in has ms)) (after_all ms nothing_declared)) (sym (next_taken paths mentions i m lt e))
+    (subst (λ cs. TablesSay paths has new cs (after_all (before ++ shown paths m ∷ []) nothing_declared)) (sym (calls_next has before (shown paths m)))
+    (subst (λ d. TablesSay paths has new (called (calls_in has before) ++ called (call_in has (shown paths m))) d) (sym (after_append before (shown paths m ∷ []) nothing_declared))
     (notices _ _ notes)))
 
-pub notes_all : (paths : List AbsolutePath) (whole : Whole) (tables : Tables) (mentions : List CodeMention) (i : ℕ) → length mentions ≤ i → after_all (all_shown paths mentions) nothing_declared ≡ whole.all → Notes paths (is_named whole.all) tables (called (calls_in (is_named whole.all) (take i (all_shown paths mentions)))) (after_all (take i (all_shown paths mentions)) nothing_declared) → Notes paths (is_named whole.all) tables (called (calls_in (is_named whole.all) (all_shown paths mentions))) whole.all
+pub notes_all : (paths : List AbsolutePath) (whole : Whole) (tables : Tables) (mentions : List CodeMention) (i : ℕ) → length mentions ≤ i → after_all (all_shown paths mentions) nothing_declared ≡ whole.all → TablesSay paths (is_named whole.all) tables (called (calls_in (is_named whole.all) (take i (all_shown paths mentions)))) (after_all (take i (all_shown paths mentions)) nothing_declared)
+    → TablesSay paths (is_named whole.all) tables (called (calls_in (is_named whole.all) (all_shown paths mentions))) whole.all
 notes_all paths whole tables mentions i le all notes =
     let has = is_named whole.all in
     let ms = all_shown paths mentions in
     let full : take i ms ≡ ms = take_all i ms (omega (arith, le, length-map mentions (shown paths))) in
-    subst (λ d. Notes paths has tables (called (calls_in has ms)) d) all (subst (λ xs. Notes paths has tables (called (calls_in has xs)) (after_all xs nothing_declared)) full notes)
+    subst (λ d. TablesSay paths has tables (called (calls_in has ms)) d) all (subst (λ xs. TablesSay paths has tables (called (calls_in has xs)) (after_all xs nothing_declared)) full notes)

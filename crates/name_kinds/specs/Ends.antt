@@ -6,7 +6,7 @@ use Rattle.asl_tree.specs.Names.{Known, AliasTo, kind_at}
 use Rattle.acpi_names.specs.Errors.{final}
 use Rattle.name_kinds.specs.Kinds.{object_as}
 use Rattle.name_kinds.specs.declared.kind.End.{End}
-use Rattle.name_kinds.specs.declared.ends.Mark.{Mark}
+use Rattle.name_kinds.specs.declared.ends.WalkState.{WalkState}
 use Rattle.name_kinds.specs.declared.ends.Step.{Step}
 use Rattle.name_kinds.specs.declared.ends.Walks.{Walks}
 
@@ -27,14 +27,14 @@ Follows paths known path (Step.Leads source) = (source < length paths)
     × (kind_at known path ≡ Some (AliasTo (Some (get_or paths source []))))
 
 -- a path has been followed
-abbrev pub IsMarked : List Mark → ℕ → Type 0
-IsMarked marks n = get_or marks n Mark.New ≡ Mark.New → ⊥
+abbrev pub IsMarked : List WalkState → ℕ → Type 0
+IsMarked marks n = get_or marks n WalkState.New ≡ WalkState.New → ⊥
 
 -- the marks say which paths have an end in the table, and which are on the walk
 pub record AreMarked (paths : List AbsolutePath) (known : Known) (walks : Walks) : Type 0 where
   pub marks : length walks.marks.items ≡ length paths
   pub ends : length walks.ends.items ≡ length paths
-  pub reached : (n : ℕ) → get_or walks.marks.items n Mark.New ≡ Mark.Ended → ended paths (get_or walks.ends.items n None) ≡ final known
-      (get_or paths n [])
-  pub walking : (n : ℕ) → get_or walks.marks.items n Mark.New ≡ Mark.OnWalk → Contains walks.chain.items n
+  pub reached : (n : ℕ) → get_or walks.marks.items n WalkState.New ≡ WalkState.Ended
+      → ended paths (get_or walks.ends.items n None) ≡ final known (get_or paths n [])
+  pub walking : (n : ℕ) → get_or walks.marks.items n WalkState.New ≡ WalkState.OnWalk → Contains walks.chain.items n
   pub inside : All (λ n. n < length paths) walks.chain.items

@@ -13,8 +13,8 @@ use Rattle.name_kinds.specs.declared.kind.Outside.{Outside}
 use Rattle.name_kinds.specs.declared.kind.Outside.TheVariants as Other
 use Rattle.name_kinds.specs.declared.kind.Object.{Object}
 use Rattle.name_kinds.specs.declared.kind.Object.TheVariants as O
-use Rattle.name_kinds.specs.declared.kind.Kind.{Kind}
-use Rattle.name_kinds.specs.declared.kind.Kind.TheVariants as K
+use Rattle.name_kinds.specs.declared.kind.NameKind.{NameKind}
+use Rattle.name_kinds.specs.declared.kind.NameKind.TheVariants as K
 use Rattle.name_kinds.specs.declared.kind.External.{External}
 
 abbrev pub outside_as : Outside → S.External
@@ -28,7 +28,7 @@ object_as O.Container = ContainerObject OfRoot
 object_as O.Lock = MutexObject 0
 object_as (O.Outside object) = ExternalObject (outside_as object)
 
-abbrev pub kind_as : List AbsolutePath → Kind → N.Kind
+abbrev pub kind_as : List AbsolutePath → NameKind → N.NameKind
 kind_as paths (K.Is object) = Is (object_as object)
 kind_as paths (K.AliasTo source) = AliasTo (path_with paths source)
 
@@ -46,7 +46,7 @@ space_of (Some (path, S.RegionObject space offset length)) = Some space
 space_of _ = None
 
 -- what a path other than the root is: as it is declared last, as of another table, or of the root
-abbrev pub kind_from : Option N.Kind → Option ExternalType → Option ℕ → Option S.Object → Option N.Kind
+abbrev pub kind_from : Option N.NameKind → Option ExternalType → Option ℕ → Option S.Object → Option N.NameKind
 kind_from (Some kind) external first object = Some kind
 kind_from None (Some external) first object = Some (Is (ExternalObject (external_object external first)))
 kind_from None None first (Some object) = Some (Is object)

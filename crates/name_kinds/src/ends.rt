@@ -4,24 +4,24 @@ ghost use Rattle.std.specs.Option.{option_map};
 ghost use Rattle.acpi_values.specs.Paths.{AbsolutePath};
 ghost use Rattle.asl_tree.specs.Names.{Known, kind_at};
 ghost use Rattle.acpi_names.specs.Errors.{Whole, final};
-ghost use Rattle.name_kinds.specs.declared.ends.Mark.TheVariants as Mark;
+ghost use Rattle.name_kinds.specs.declared.ends.WalkState.TheVariants as WalkState;
 ghost use Rattle.name_kinds.specs.Kinds.{kind_as, object_as, type_as, kind_from as kind_of};
 ghost use Rattle.name_kinds.specs.Tables.{Says};
 ghost use Rattle.name_kinds.specs.Ends.{AreEnds, AreMarked, Follows, IsMarked, ended};
 
-use crate::kind::{End, External, Kind, Object, external_outside};
+use crate::kind::{End, External, NameKind, Object, external_outside};
 use crate::tables::{Tables, is_root, root_at};
+use acpi_names::lookup::scope_in;
 use acpi_names::paths::Paths;
-use acpi_names::place::scope_in;
 use std::alloc::{AllocError, Global};
 
 // What a path is, by what declares it last.
 fn kind_from(
-    declared: Option<Kind>,
+    declared: Option<NameKind>,
     external: Option<External>,
     first: Option<usize>,
     object: Option<Object>,
-) -> Option<Kind>
+) -> Option<NameKind>
     ensures { (paths : List AbsolutePath) → option_map (kind_as paths) result ≡ kind_of (option_map (kind_as paths) declared)
         (option_map type_as external) first (option_map object_as object) }
 {
@@ -29,16 +29,16 @@ fn kind_from(
         return Some(kind);
     }
     if let Some(external) = external {
-        return Some(Kind::Is(Object::Outside(external_outside(external, first))));
+        return Some(NameKind::Is(Object::Outside(external_outside(external, first))));
     }
     match object {
-        Some(object) => Some(Kind::Is(object)),
+        Some(object) => Some(NameKind::Is(object)),
         None => None,
     }
 }
 
 /// What the path with a number is.
-pub fn kind(paths: &Paths, tables: &Tables, number: usize) -> Option<Kind>
+pub fn kind(paths: &Paths, tables: &Tables, number: usize) -> Option<NameKind>
     ghost whole: { Whole }
     requires told { Says paths.now tables.now whole }
     requires within { number < length paths.now }
@@ -47,7 +47,7 @@ pub fn kind(paths: &Paths, tables: &Tables, number: usize) -> Option<Kind>
     let count = paths.len();
     let object = root_at(paths, number);
     if is_root(paths, number) {
-        return Some(Kind::Is(Object::Container));
+        return Some(NameKind::Is(Object::Container));
     }
     kind_from(
         tables.kinds[number],
@@ -59,7 +59,7 @@ pub fn kind(paths: &Paths, tables: &Tables, number: usize) -> Option<Kind>
 
 /// How far a path has been followed: not yet, by the walk that is under way, or to its end.
 #[derive(Clone, Copy, PartialEq, Eq, Debug)]
-pub enum Mark {
+pub enum WalkState {
     New,
     OnWalk,
     Ended,
@@ -69,7 +69,7 @@ pub enum Mark {
 /// paths on the walk that is under way.
 #[derive(Drop)]
 pub struct Walks {
-    pub marks: Vec<Mark>,
+    pub marks: Vec<WalkState>,
     pub ends: Vec<Option<End>>,
     pub chain: Vec<usize>,
 }
@@ -83,14 +83,14 @@ pub enum Step {
 
 // No path is followed yet.
 fn unwalked(alloc: Global, count: usize) -> Result<Walks, AllocError>
-    ensures marks { IfOk result (λ w. w.marks.items ≡ replicate count Mark.New) }
+    ensures marks { IfOk result (λ w. w.marks.items ≡ replicate count WalkState.New) }
     ensures ends { IfOk result (λ w. length w.ends.items ≡ count) }
     ensures chain { IfOk result (λ w. w.chain.items ≡ []) }
 {
     let mut marks = Vec::new(alloc);
     let mut ends = Vec::new(alloc);
     for number in 0..count {
-        marks.push(Mark::New)?;
+        marks.push(WalkState::New)?;
         ends.push(None)?;
     }
     Ok(Walks {
@@ -109,23 +109,23 @@ fn behind(paths: &Paths, tables: &Tables, number: usize) -> Step
 {
     match kind(paths, tables, number) {
         None => Step::Ends(None),
-        Some(Kind::Is(object)) => Step::Ends(Some(End {
+        Some(NameKind::Is(object)) => Step::Ends(Some(End {
             path: number,
             object,
         })),
-        Some(Kind::AliasTo(None)) => Step::Ends(None),
-        Some(Kind::AliasTo(Some(source))) => Step::Leads(scope_in(paths, source)),
+        Some(NameKind::AliasTo(None)) => Step::Ends(None),
+        Some(NameKind::AliasTo(Some(source))) => Step::Leads(scope_in(paths, source)),
     }
 }
 
 // The path with a number is on the walk from now on.
 fn enter(walks: &mut Walks, number: usize) -> Result<(), AllocError>
     requires { number < length walks.old.marks.items }
-    ensures marks { OnOk result (walks.new.marks.items ≡ set walks.old.marks.items number Mark.OnWalk) }
+    ensures marks { OnOk result (walks.new.marks.items ≡ set walks.old.marks.items number WalkState.OnWalk) }
     ensures ends { OnOk result (walks.new.ends.items ≡ walks.old.ends.items) }
     ensures chain { OnOk result (walks.new.chain.items ≡ walks.old.chain.items ++ number ∷ []) }
 {
-    walks.marks[number] = Mark::OnWalk;
+    walks.marks[number] = WalkState::OnWalk;
     walks.chain.push(number)?;
     Ok(())
 }
@@ -150,9 +150,9 @@ fn follow(
     let mut at = start;
     loop {
         match walks.marks[at] {
-            Mark::Ended => return Ok(walks.ends[at]),
-            Mark::OnWalk => return Ok(None),
-            Mark::New => {}
+            WalkState::Ended => return Ok(walks.ends[at]),
+            WalkState::OnWalk => return Ok(None),
+            WalkState::New => {}
         }
         enter(walks, at)?;
         match behind(paths, tables, at) {
@@ -173,7 +173,7 @@ fn settle(walks: &mut Walks, end: Option<End>)
 {
     while let Some(number) = walks.chain.pop() {
         walks.ends[number] = end;
-        walks.marks[number] = Mark::Ended;
+        walks.marks[number] = WalkState::Ended;
     }
 }
 

@@ -8,7 +8,7 @@ ghost use Rattle.acpi_names.specs.Parts.{Agrees};
 ghost use Rattle.acpi_names.specs.Shown.{all_shown};
 ghost use Rattle.name_kinds.specs.Depths.{AreDepths};
 ghost use Rattle.name_kinds.specs.Ends.{ended};
-ghost use Rattle.name_kinds.specs.Tables.{AreSized, Notes, IsKnown};
+ghost use Rattle.name_kinds.specs.Tables.{AreSized, TablesSay, IsKnown};
 ghost use Rattle.name_kinds.specs.Facts.{Knows};
 
 use crate::ends::ends_of;
@@ -58,7 +58,7 @@ impl Facts {
 /// Tables that say nothing yet.
 pub fn blank(alloc: Global, index: &Index) -> Result<Tables, AllocError>
     ensures sized { IfOk result (AreSized index.now.paths) }
-    ensures notes { IfOk result (λ t. (has : AbsolutePath → Bool) → Notes index.now.paths has t [] nothing_declared) }
+    ensures notes { IfOk result (λ t. (has : AbsolutePath → Bool) → TablesSay index.now.paths has t [] nothing_declared) }
 {
     let count = index.paths.len();
     let mut kinds = Vec::new(alloc);
@@ -84,7 +84,8 @@ fn noted(alloc: Global, index: &Index, mentions: &[Mention]) -> Result<Tables, A
     requires all { after_all (all_shown index.now.paths mentions.now) nothing_declared ≡ whole.all }
     ensures sized { IfOk result (AreSized index.now.paths) }
     ensures notes { IfOk result
-        (λ t. Notes index.now.paths (is_named whole.all) t (called (calls_in (is_named whole.all) (all_shown index.now.paths mentions.now)))
+        (λ t. TablesSay index.now.paths (is_named whole.all) t
+        (called (calls_in (is_named whole.all) (all_shown index.now.paths mentions.now)))
         whole.all) }
 {
     let mut tables = blank(alloc, index)?;

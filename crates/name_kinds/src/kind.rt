@@ -32,7 +32,7 @@ pub enum Object {
 
 /// What a declared path is: an object, or an alias of the path with a number, where its source denotes one.
 #[derive(Clone, Copy, PartialEq, Eq, Debug)]
-pub enum Kind {
+pub enum NameKind {
     Is(Object),
     AliasTo(Option<usize>),
 }

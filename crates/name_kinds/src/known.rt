@@ -3,7 +3,7 @@ ghost use Rattle.std.specs.Prelude.{◌≡◌, IfOk};
 ghost use Rattle.name_kinds.specs.Known.{KnowsItsTerms};
 
 use crate::facts::{Facts, facts_of};
-use acpi_names::index::{Found, Index, names_of};
+use acpi_names::index::{BlockNames, Index, names_of};
 use acpi_names::mention::Mention;
 use asl_tree::term::Node;
 use std::alloc::{AllocError, Global};
@@ -46,7 +46,7 @@ pub fn known_of(alloc: Global, terms: &[Node]) -> Result<Known<'_>, AllocError>
     ensures terms { IfOk result (λ known. known.terms.now ≡ terms.now) }
     ensures known { IfOk result KnowsItsTerms }
 {
-    let Found { index, mentions } = names_of(alloc, terms)?;
+    let BlockNames { index, mentions } = names_of(alloc, terms)?;
     let facts = facts_of(alloc, index, &mentions)?;
     Ok(Known {
         terms,

@@ -1,6 +1,6 @@
 //! What is said of each path, in tables by its number.
 ghost use Rattle.std.specs.Prelude.{◌≡◌, ◌<◌, ◌≤◌, ◌+◌, ◌^◌, [], length, get_or, IfSome, true};
-ghost use Rattle.asl_tree.specs.Names.{place_of, denoted as denotes_path};
+ghost use Rattle.asl_tree.specs.Names.{declared_path, denoted as denotes_path};
 ghost use Rattle.asl_meaning.specs.Declarations.{in_root, is_named, kind_of};
 ghost use Rattle.acpi_names.specs.Errors.{Whole};
 ghost use Rattle.acpi_names.specs.Parts.{Agrees};
@@ -11,11 +11,11 @@ ghost use Rattle.std.specs.Option.{option_map};
 ghost use Rattle.name_kinds.specs.Kinds.{object_as, kind_as, at_root};
 ghost use Rattle.name_kinds.specs.Tables.{AreSized, IsThere, IsDeclared, IsExternal, IsOutside, IsCalled, Notices};
 
-use crate::kind::{External, Kind, Object, root_object};
+use crate::kind::{External, NameKind, Object, root_object};
 use acpi_names::index::{Index, denoted_by};
+use acpi_names::lookup::{find, prefixed, scope_in};
 use acpi_names::mention::{Declared, Mention, WrittenName};
 use acpi_names::paths::Paths;
-use acpi_names::place::{find, prefixed, scope_in};
 use asl_tree::path::Path;
 use std::alloc::{AllocError, Global};
 
@@ -23,7 +23,7 @@ use std::alloc::{AllocError, Global};
 /// arguments of its first call.
 #[derive(Drop)]
 pub struct Tables {
-    pub kinds: Vec<Option<Kind>>,
+    pub kinds: Vec<Option<NameKind>>,
     pub externals: Vec<Option<External>>,
     pub calls: Vec<Option<usize>>,
 }
@@ -39,10 +39,10 @@ pub fn denoted(index: &Index, name: &Path, scope: usize) -> Option<usize>
     denoted_by(index, name, scope_in(&index.paths, scope))
 }
 
-// The number of the place of a declared name, where it is there.
-fn place_in(paths: &Paths, name: WrittenName, scope: usize) -> Option<usize>
+// The number of the path of a declared name, where there is one.
+fn declared_in(paths: &Paths, name: WrittenName, scope: usize) -> Option<usize>
     requires { scope < length paths.now }
-    ensures { result ≡ number_in paths.now (place_of (written_as name.entry) (get_or paths.now scope [])) }
+    ensures { result ≡ number_in paths.now (declared_path (written_as name.entry) (get_or paths.now scope [])) }
 {
     match name {
         WrittenName::Path(path) => {
@@ -53,16 +53,16 @@ fn place_in(paths: &Paths, name: WrittenName, scope: usize) -> Option<usize>
     }
 }
 
-/// The number of a place that is named.
-pub fn place(index: &Index, name: WrittenName, scope: usize) -> usize
+/// The number of the path of a name that is declared.
+pub fn declared_at(index: &Index, name: WrittenName, scope: usize) -> usize
     ghost whole: { Whole }
     requires agrees { Agrees index.now.paths index.now.named.items whole.all }
-    requires there { is_named whole.all (place_of (written_as name) (get_or index.now.paths scope [])) ≡ true }
+    requires there { is_named whole.all (declared_path (written_as name) (get_or index.now.paths scope [])) ≡ true }
     ensures within { result < length index.now.paths }
-    ensures path { get_or index.now.paths result [] ≡ place_of (written_as name.entry) (get_or index.now.paths scope []) }
+    ensures path { get_or index.now.paths result [] ≡ declared_path (written_as name.entry) (get_or index.now.paths scope []) }
 {
     let scope = scope_in(&index.paths, scope);
-    match place_in(&index.paths, name, scope) {
+    match declared_in(&index.paths, name, scope) {
         Some(number) => number,
         None => 0,
     }
@@ -109,20 +109,20 @@ pub fn is_in_root(paths: &Paths, number: usize) -> bool
 }
 
 // What a declaration says that its path is.
-fn declared_kind(index: &Index, what: Declared) -> Kind
+fn declared_kind(index: &Index, what: Declared) -> NameKind
     ghost whole: { Whole }
     requires flags { length index.now.named.items ≡ length index.now.paths }
     requires agrees { Agrees index.now.paths index.now.named.items whole.all }
     ensures { kind_as index.now.paths result ≡ kind_of (is_named whole.all) (declared_as index.now.paths what.entry) }
 {
     match what {
-        Declared::As(what) => Kind::Is(Object::Declared(what)),
-        Declared::Alias { source, scope } => Kind::AliasTo(denoted(index, source, scope)),
+        Declared::As(what) => NameKind::Is(Object::Declared(what)),
+        Declared::Alias { source, scope } => NameKind::AliasTo(denoted(index, source, scope)),
     }
 }
 
 // A path is declared.
-fn note_declared(index: &Index, tables: &mut Tables, number: usize, kind: Kind)
+fn note_declared(index: &Index, tables: &mut Tables, number: usize, kind: NameKind)
     requires within { number < length index.now.paths }
     requires sized { AreSized index.now.paths tables.old }
     ensures sized { AreSized index.now.paths tables.new }
@@ -205,7 +205,7 @@ pub fn note(index: &Index, tables: &mut Tables, mention: &Mention)
             ..
         } => {
             let kind = declared_kind(index, *what);
-            let number = place(index, *name, *scope);
+            let number = declared_at(index, *name, *scope);
             note_declared(index, tables, number, kind);
         }
         Mention::Outside {
@@ -215,7 +215,7 @@ pub fn note(index: &Index, tables: &mut Tables, mention: &Mention)
             scope,
             ..
         } => {
-            let number = place(index, WrittenName::Path(name), *scope);
+            let number = declared_at(index, WrittenName::Path(name), *scope);
             let external = External {
                 object: *object,
                 parameters: *parameters,

@@ -43,7 +43,8 @@ taken_more paths numbers i lt = ap (λ k. map (at_number paths) (take k numbers)
     by_suc (x ∷ ns) (suc i) lt = ap (λ ps. at_number paths x ∷ ps) (by_suc ns i (omega (arith, lt)))
 
 -- one number more
-pub marked_also : (paths : List AbsolutePath) (old new : List Bool) (numbers : List ℕ) (i at : ℕ) (test : AbsolutePath → Bool) → i < length numbers → get_or paths at [] ≡ get_or paths (get_or numbers i 0) [] → IsMarked paths old new (Some (get_or paths at [])) → Marked paths old (λ path. list_any (is_same_path path) (map (at_number paths) (take i numbers)) || test path) → Marked paths new (λ path. list_any (is_same_path path) (map (at_number paths) (take (i + 1) numbers)) || test path)
+pub marked_also : (paths : List AbsolutePath) (old new : List Bool) (numbers : List ℕ) (i at : ℕ) (test : AbsolutePath → Bool) → i < length numbers → get_or paths at [] ≡ get_or paths (get_or numbers i 0) [] → IsMarked paths old new (Some (get_or paths at [])) → Marked paths old (λ path. list_any (is_same_path path) (map (at_number paths) (take i numbers)) || test path)
+    → Marked paths new (λ path. list_any (is_same_path path) (map (at_number paths) (take (i + 1) numbers)) || test path)
 marked_also paths old new numbers i at test lt same marks before path =
     let taken = map (at_number paths) (take i numbers) in
     marks (λ q. list_any (is_same_path q) taken || test q) before path
@@ -56,7 +57,8 @@ pub marked_each : (paths : List AbsolutePath) (flags : List Bool) (numbers : Lis
 marked_each paths flags numbers i test le marked path = marked path ∙ ap (λ ns. list_any (is_same_path path) (map (at_number paths) ns) || test path) (take_all i numbers le)
 
 -- one mention more
-pub marked_next : (paths : List AbsolutePath) (old new : List Bool) (path_of : Mention → Option AbsolutePath) (mentions : List CodeMention) (i : ℕ) (m : CodeMention) → i < length mentions → m ≡ get_or mentions i m → IsMarked paths old new (path_of (shown paths m)) → Marked paths old (is_among path_of (take i (all_shown paths mentions))) → Marked paths new (is_among path_of (take (i + 1) (all_shown paths mentions)))
+pub marked_next : (paths : List AbsolutePath) (old new : List Bool) (path_of : Mention → Option AbsolutePath) (mentions : List CodeMention) (i : ℕ) (m : CodeMention) → i < length mentions → m ≡ get_or mentions i m → IsMarked paths old new (path_of (shown paths m))
+    → Marked paths old (is_among path_of (take i (all_shown paths mentions))) → Marked paths new (is_among path_of (take (i + 1) (all_shown paths mentions)))
 marked_next paths old new path_of mentions i m lt e marks before path =
     let taken = take i (all_shown paths mentions) in
     let test = λ (x : Mention). is_at path (path_of x) in

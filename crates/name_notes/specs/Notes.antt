@@ -8,7 +8,7 @@ use Rattle.acpi_state.specs.Objects.{MethodObject, arity_of}
 use Rattle.acpi_state.specs.Outcomes.{choose}
 use Rattle.iasl_messages.specs.declared.message.Message.{Message}
 use Rattle.iasl_messages.specs.declared.place.Place.{Place}
-use Rattle.asl_tree.specs.Names.{place_of, denoted}
+use Rattle.asl_tree.specs.Names.{declared_path, denoted}
 use Rattle.asl_tree.specs.Tree.{Trees}
 use Rattle.asl_meaning.specs.Declarations.{Declared, As, nothing_declared, is_named, declarations}
 use Rattle.acpi_names.specs.Mentions.{Mention, Used', Sought, Called, Declares, Opens, block_mentions}
@@ -49,7 +49,7 @@ is_other _ _ = false
 
 -- the path that a mention declares as a method
 abbrev pub method_of : Mention → Option AbsolutePath
-method_of (Declares at name as' scope) = choose (method_arguments as') None (λ count. Some (place_of name scope))
+method_of (Declares at name as' scope) = choose (method_arguments as') None (λ count. Some (declared_path name scope))
 method_of _ = None
 
 -- the path that a mention uses: what the name of an operand, of the source of an Alias, of a call or of a Scope
@@ -78,7 +78,7 @@ is_used_in has also mentions path = list_any (is_same_path path) also || is_amon
 -- a name is a method's own where the scope in which it is declared is a method's
 abbrev pub mention_notes : (is_method is_used : AbsolutePath → Bool) → Mention → List Message
 mention_notes is_method is_used (Declares at name as' scope) =
-    let path = place_of name scope in
+    let path = declared_path name scope in
     told_if (is_other (reserved_arguments path) (method_arguments as')) 3001 at.place path
     ++ told_if (is_method scope && not (is_used path)) 3003 at.place path
 mention_notes is_method is_used _ = []

@@ -15,15 +15,15 @@ ghost use Rattle.name_notes.specs.Notes.{told_if, reserved_arguments, is_other, 
 use crate::marks::{Marks, is_marked, mark_each, marks_of, method_arguments};
 use crate::reserved::arguments_of;
 use acpi_names::index::Index;
+use acpi_names::lookup::scope_in;
 use acpi_names::mention::Mention;
 use acpi_names::paths::Paths;
-use acpi_names::place::scope_in;
 use iasl_messages::message::{Message, Messages};
 use iasl_messages::number::{NAME_IS_UNUSED, RESERVED_NAME_ARGUMENTS};
 use iasl_messages::place::Place;
 use name_checks::fault::text_of_path;
 use name_kinds::known::Known;
-use name_kinds::tables::place;
+use name_kinds::tables::declared_at;
 use std::alloc::{AllocError, Global};
 
 // How many arguments a method at the path with a number has to take, by the last segment of the path.
@@ -109,7 +109,7 @@ fn note(
             scope,
         } => {
             let paths = &index.paths;
-            let number = place(index, *name, *scope);
+            let number = declared_at(index, *name, *scope);
             let others = takes_others(arguments_due(paths, number), method_arguments(*what));
             tell(
                 alloc,

@@ -13,11 +13,11 @@ ghost use Rattle.name_notes.specs.Marks.{AreSized, Marked, IsMarked, AreMarked};
 ghost use Rattle.name_notes.specs.Notes as spec;
 
 use acpi_names::index::Index;
+use acpi_names::lookup::scope_in;
 use acpi_names::mention::{Declared, Mention};
 use acpi_names::part::What;
 use acpi_names::paths::Paths;
-use acpi_names::place::scope_in;
-use name_kinds::tables::{denoted, place};
+use name_kinds::tables::{declared_at, denoted};
 use std::alloc::{AllocError, Global};
 
 /// Of the paths with these numbers, which are declared as methods, and which are used.
@@ -52,7 +52,7 @@ fn method(index: &Index, mention: &Mention) -> Option<usize>
             scope,
             ..
         } => match method_arguments(*what) {
-            Some(_) => Some(place(index, *name, *scope)),
+            Some(_) => Some(declared_at(index, *name, *scope)),
             None => None,
         },
         _ => None,

@@ -209,7 +209,8 @@ module _ (has : AbsolutePath → Bool) (path scope : AbsolutePath) where
           ap (λ c. shortest (form_name best path) (if c then F ∷ rest else rest)) h ∙ by_leads (free false s) leads h ∙ last_step
 
 -- the same, of what the code finds
-pub found_next : (has : AbsolutePath → Bool) (path scope : AbsolutePath) (best new : Form) (n next up : ℕ) (seg : NameSeg) (outer : AbsolutePath) (leads : Bool) → has path ≡ true → best.count ≤ length path → drop n path ≡ seg ∷ outer → next ≡ suc n → up ≡ length scope - length outer → is_same_path (drop up scope) outer ≡ leads → new ≡ nearer best (record { root = false; up = up; count = next }) leads → left_to_find has path scope best n (seg ∷ outer) ≡ left_to_find has path scope new next outer
+pub found_next : (has : AbsolutePath → Bool) (path scope : AbsolutePath) (best new : Form) (n next up : ℕ) (seg : NameSeg) (outer : AbsolutePath) (leads : Bool) → has path ≡ true → best.count ≤ length path → drop n path ≡ seg ∷ outer → next ≡ suc n → up ≡ length scope - length outer → is_same_path (drop up scope) outer ≡ leads
+    → new ≡ nearer best (record { root = false; up = up; count = next }) leads → left_to_find has path scope best n (seg ∷ outer) ≡ left_to_find has path scope new next outer
 found_next has path scope best new n next up seg outer leads there fits e one higher under is =
     let form : Form = record { root = false; up = up; count = next } in
     let same : form ≡ record { root = false; up = length scope - length outer; count = suc n } = ap (λ k. record { root = false; up = up; count = k }) one ∙ ap (λ u. record { root = false; up = u; count = suc n }) higher in

@@ -14,7 +14,7 @@ use Rattle.asl_tree.specs.declared.term.Control.TheVariants as Control
 use Rattle.asl_tree.specs.declared.term.Literal.TheVariants as Literal
 use Rattle.asl_tree.specs.declared.term.Special.TheVariants as Special
 use Rattle.asl_tree.specs.declared.term.Symbolic.TheVariants as Symbolic
-use Rattle.asl_tree.specs.Names.{place_of}
+use Rattle.asl_tree.specs.Names.{declared_path}
 use Rattle.acpi_names.specs.Shortest.{spelled_use}
 use Rattle.asl_tree.specs.Tree.{At, Tree, Apply, Integer, Constant, String, Raw, Omitted, Use, External, Package, VarPackage, Misshapen, Trees, no_trees, tree, count, Field, IndexField, BankField, UnitName, Item, Fill}
 use Rattle.asl_tree.specs.View.{fits, operated, symbol_of, form, operands_as, targets_of, plain_of, apply_of, buffer, body_bytes, packaged, counted, item_in, items_in}
@@ -162,11 +162,12 @@ module _ (shorten : Bool) (has : AbsolutePath → Bool) (says : AbsolutePath →
       by_option None = refl
       by_option (Some items) = h items
 
-  pub spelled_form : ((path : AbsolutePath) (e : ExternalType) → (says path e).parameters ≡ Some (number_or_zero (says path e).parameters)) → (at : At) (op : Op) (args body : Trees) → spells (form at op args body) ≡ form at op (part_args shorten has says (part_of op args body) (value_form_of op args body) args scope) (part_body shorten has says (part_of op args body) (value_form_of op args body) args body scope)
+  pub spelled_form : ((path : AbsolutePath) (e : ExternalType) → (says path e).parameters ≡ Some (number_or_zero (says path e).parameters)) → (at : At) (op : Op) (args body : Trees)
+      → spells (form at op args body) ≡ form at op (part_args shorten has says (part_of op args body) (value_form_of op args body) args scope) (part_body shorten has says (part_of op args body) (value_form_of op args body) args body scope)
   spelled_form told here (Op.Declaration Declaration.Name) (tree (Use at name) (tree value no_trees)) no_trees = refl
   spelled_form told here (Op.Declaration Declaration.Alias) (tree (Use from source) (tree (Use at name) no_trees)) no_trees = refl
-  spelled_form told here (Op.Declaration Declaration.External) (tree (Use at name) (tree (Integer type) no_trees)) no_trees = ap (λ p. External here at name (says (place_of name scope) (external_type type None)).type p) (told (place_of name scope) (external_type type None))
-  spelled_form told here (Op.Declaration Declaration.External) (tree (Use at name) (tree (Integer type) (tree (Integer parameters) no_trees))) no_trees = ap (λ p. External here at name (says (place_of name scope) (external_type type (Some parameters))).type p) (told (place_of name scope) (external_type type (Some parameters)))
+  spelled_form told here (Op.Declaration Declaration.External) (tree (Use at name) (tree (Integer type) no_trees)) no_trees = ap (λ p. External here at name (says (declared_path name scope) (external_type type None)).type p) (told (declared_path name scope) (external_type type None))
+  spelled_form told here (Op.Declaration Declaration.External) (tree (Use at name) (tree (Integer type) (tree (Integer parameters) no_trees))) no_trees = ap (λ p. External here at name (says (declared_path name scope) (external_type type (Some parameters))).type p) (told (declared_path name scope) (external_type type (Some parameters)))
   spelled_form told here (Op.Declaration Declaration.Method) (tree (Use at name) (tree (Integer arity) no_trees)) body = refl
   spelled_form told here (Op.Declaration Declaration.Mutex) (tree (Use at name) (tree (Integer level) no_trees)) no_trees = refl
   spelled_form told here (Op.Declaration Declaration.Event) (tree (Use at name) no_trees) no_trees = refl

@@ -75,7 +75,9 @@ module _ (shorten : Bool) (has : AbsolutePath → Bool) (says : AbsolutePath →
       call_tree at new more ∙ ap (λ p. Call at p (trees_of more.items)) same ∙ ap (Call at (spelled_use has shorten path scope)) spelt
       ∙ sym (ap (λ t. spelled shorten has says (tree_of at t) scope) e ∙ ap (λ t. spelled shorten has says t scope) (call_tree at path args))
 
-  pub form_spelled : ((path : AbsolutePath) (e : ExternalType) → (says path e).parameters ≡ Some (number_or_zero (says path e).parameters)) → (t : Term) (op : Op) (args body more others : Vec Node Global) → t ≡ D.Form op args body → trees_of more.items ≡ part_args shorten has says (part_of op (trees_of args.items) (trees_of body.items)) (value_form_of op (trees_of args.items) (trees_of body.items)) (trees_of args.items) scope → trees_of others.items ≡ part_body shorten has says (part_of op (trees_of args.items) (trees_of body.items)) (value_form_of op (trees_of args.items) (trees_of body.items)) (trees_of args.items) (trees_of body.items) scope → tree_of at (D.Form op more others) ≡ spelled shorten has says (tree_of at t) scope
+  pub form_spelled : ((path : AbsolutePath) (e : ExternalType) → (says path e).parameters ≡ Some (number_or_zero (says path e).parameters)) → (t : Term) (op : Op) (args body more others : Vec Node Global) → t ≡ D.Form op args body
+      → trees_of more.items ≡ part_args shorten has says (part_of op (trees_of args.items) (trees_of body.items)) (value_form_of op (trees_of args.items) (trees_of body.items)) (trees_of args.items) scope
+      → trees_of others.items ≡ part_body shorten has says (part_of op (trees_of args.items) (trees_of body.items)) (value_form_of op (trees_of args.items) (trees_of body.items)) (trees_of args.items) (trees_of body.items) scope → tree_of at (D.Form op more others) ≡ spelled shorten has says (tree_of at t) scope
   form_spelled told t op args body more others e spelt inside =
       form_tree at op more others
       ∙ ap (λ ts. form at op ts (trees_of others.items)) spelt

@@ -5,7 +5,7 @@ use Rattle.std.proofs.lemmas.List.{reverse-append}
 use Rattle.acpi_values.specs.Paths.{NameSeg, AbsolutePath}
 use Rattle.acpi_state.specs.Outcomes.{choose}
 use Rattle.asl_tree.specs.declared.path.Path.{Path as Name}
-use Rattle.asl_tree.specs.Names.{place_of, enclosing, candidates, first_of, denoted, single_segment, absolute, spelled_by, spelled_name, spelled_element}
+use Rattle.asl_tree.specs.Names.{declared_path, enclosing, candidates, first_of, denoted, single_segment, absolute, spelled_by, spelled_name, spelled_element}
 use Rattle.asl_tree.specs.Tree.{Trees}
 use Rattle.acpi_names.specs.Parts.{name_at}
 use mathlib.Core.Path.{fun_ext}
@@ -35,12 +35,13 @@ nearest_first has seg [] path e = by_here (has (seg ∷ [])) e
     by_here false h = absurd (grind arith)
 nearest_first has seg (outer ∷ scope) path e = by_here (has (seg ∷ outer ∷ scope)) e (nearest_first has seg scope path)
   where
-    by_here : (c : Bool) → first_of (if c then (seg ∷ outer ∷ scope) ∷ candidates has (enclosing seg scope) else candidates has (enclosing seg scope)) ≡ Some path → (first_of (candidates has (enclosing seg scope)) ≡ Some path → candidates has (enclosing seg scope) ≡ path ∷ candidates has (around seg (tail_of path))) → (if c then (seg ∷ outer ∷ scope) ∷ candidates has (enclosing seg scope) else candidates has (enclosing seg scope)) ≡ path ∷ candidates has (around seg (tail_of path))
+    by_here : (c : Bool) → first_of (if c then (seg ∷ outer ∷ scope) ∷ candidates has (enclosing seg scope) else candidates has (enclosing seg scope)) ≡ Some path → (first_of (candidates has (enclosing seg scope)) ≡ Some path → candidates has (enclosing seg scope) ≡ path ∷ candidates has (around seg (tail_of path)))
+        → (if c then (seg ∷ outer ∷ scope) ∷ candidates has (enclosing seg scope) else candidates has (enclosing seg scope)) ≡ path ∷ candidates has (around seg (tail_of path))
     by_here true h go = ap (λ o. some_path o ∷ candidates has (around seg (tail_of (some_path o)))) h
     by_here false h go = go h
 
 searched_at : (has : AbsolutePath → Bool) (name : Name) (seg : NameSeg) (scope : AbsolutePath) → single_segment name ≡ Some seg → spelled_name has name scope ≡ spelled_by (candidates has (enclosing seg scope)) name
-searched_at has name seg scope e = ap (λ o. spelled_by (candidates has (choose o (place_of name scope ∷ []) (λ seg. enclosing seg scope))) name) e
+searched_at has name seg scope e = ap (λ o. spelled_by (candidates has (choose o (declared_path name scope ∷ []) (λ seg. enclosing seg scope))) name) e
 
 by_one : (path : AbsolutePath) (paths : List AbsolutePath) (name : Name) → first_of paths ≡ None → spelled_by (path ∷ paths) name ≡ name
 by_one path [] name e = refl
@@ -61,18 +62,18 @@ spelled_twice has name seg scope path other e first second =
     searched_at has name seg scope e ∙ ap (λ ps. spelled_by ps name) (nearest_first has seg scope path first)
     ∙ by_two path other (candidates has (around seg (tail_of path))) name second
 
-searched_element : (has : AbsolutePath → Bool) (name : Name) (seg : NameSeg) (scope : AbsolutePath) → single_segment name ≡ Some seg → spelled_element has name scope ≡ absolute (choose (first_of (candidates has (enclosing seg scope))) (place_of name scope) (λ path. path))
+searched_element : (has : AbsolutePath → Bool) (name : Name) (seg : NameSeg) (scope : AbsolutePath) → single_segment name ≡ Some seg → spelled_element has name scope ≡ absolute (choose (first_of (candidates has (enclosing seg scope))) (declared_path name scope) (λ path. path))
 searched_element has name seg scope e =
-    ap (λ o. if is_some o then absolute (if is_some o then choose (first_of (candidates has (choose o (place_of name scope ∷ []) (λ seg. enclosing seg scope)))) (place_of name scope) (λ path. path) else place_of name scope) else name) e
+    ap (λ o. if is_some o then absolute (if is_some o then choose (first_of (candidates has (choose o (declared_path name scope ∷ []) (λ seg. enclosing seg scope)))) (declared_path name scope) (λ path. path) else declared_path name scope) else name) e
 
-single_place : (root : Bool) (up : ℕ) (segs : List NameSeg) (seg : NameSeg) (scope : AbsolutePath) → single_segment (record { root = root; up = up; segs = segs }) ≡ Some seg → place_of (record { root = root; up = up; segs = segs }) scope ≡ seg ∷ scope
+single_place : (root : Bool) (up : ℕ) (segs : List NameSeg) (seg : NameSeg) (scope : AbsolutePath) → single_segment (record { root = root; up = up; segs = segs }) ≡ Some seg → declared_path (record { root = root; up = up; segs = segs }) scope ≡ seg ∷ scope
 single_place false zero (s ∷ []) seg scope e = ap (λ o. choose o (s ∷ scope) (λ s. s ∷ scope)) e
 single_place root up segs seg scope e = absurd (grind arith)
 
 -- an element that is not there yet
 pub element_new : (has : AbsolutePath → Bool) (name : Name) (seg : NameSeg) (scope : AbsolutePath) → single_segment name ≡ Some seg → first_of (candidates has (enclosing seg scope)) ≡ None → spelled_element has name scope ≡ absolute (seg ∷ scope)
 element_new has name seg scope e none =
-    searched_element has name seg scope e ∙ ap (λ o. absolute (choose o (place_of name scope) (λ path. path))) none
+    searched_element has name seg scope e ∙ ap (λ o. absolute (choose o (declared_path name scope) (λ path. path))) none
     ∙ ap absolute (single_place name.root name.up name.segs seg scope e)
 
 -- one segment further

@@ -38,7 +38,8 @@ any_default [] i d e lt = absurd (omega (arith, lt))
 any_default (x ∷ xs) zero d e lt = refl
 any_default (x ∷ xs) (suc i) d e lt = any_default xs i d e (omega (arith, lt))
 
-pub turns_next : (paths : List AbsolutePath) (named : List Bool) (table : List (Option ℕ)) (turn : Declarations → List (AbsolutePath × ℕ) → ℕ → Tree → Tree) (old now : List Node) (i : ℕ) (node new : Node) → i < length old → Turns paths named table turn old now i → Knowing paths named table (λ d counts. node_tree new ≡ turn d counts i (node_tree (get_or now i node))) → Turns paths named table turn old (set now i new) (i + 1)
+pub turns_next : (paths : List AbsolutePath) (named : List Bool) (table : List (Option ℕ)) (turn : Declarations → List (AbsolutePath × ℕ) → ℕ → Tree → Tree) (old now : List Node) (i : ℕ) (node new : Node) → i < length old → Turns paths named table turn old now i
+    → Knowing paths named table (λ d counts. node_tree new ≡ turn d counts i (node_tree (get_or now i node))) → Turns paths named table turn old (set now i new) (i + 1)
 turns_next paths named table turn old now i node new lt before step = record {
   done = λ d counts agrees tabled k e below. by_last d counts agrees tabled k e (nat_lt k i) refl below;
   rest = λ k e le. get_or-set_other now i k new e (let other : k ≢ i = omega (arith, le) in other) ∙ before.rest k e (omega (arith, le));

@@ -3,15 +3,15 @@ use Rattle.std.specs.Prelude.{◌≡◌, ℕ, zero, suc, Bool, true, false, List
 use Rattle.acpi_values.specs.Paths.{AbsolutePath}
 use Rattle.acpi_state.specs.Objects.{lookup}
 use Rattle.acpi_state.specs.Outcomes.{choose}
-use Rattle.asl_tree.specs.Names.{place_of}
+use Rattle.asl_tree.specs.Names.{declared_path}
 use Rattle.asl_tree.specs.Tree.{Tree, Integer, Trees, no_trees, tree}
 use Rattle.asl_meaning.specs.Declarations.{ExternalType, Declarations, is_named, written_external}
 use Rattle.acpi_names.specs.Parts.{Agrees, Keeps, name_at}
 use Rattle.acpi_names.specs.Paths.{Extends}
 use Rattle.acpi_names.specs.Spelled.{inner_scope, spelled, spelled_all, spelled_elements}
 use Rattle.acpi_names.specs.Tables.{Tabled}
-use Rattle.acpi_names.specs.declared.part.Part.{Part}
-use Rattle.acpi_names.specs.declared.part.Part.TheVariants as P
+use Rattle.acpi_names.specs.declared.part.NameRole.{NameRole}
+use Rattle.acpi_names.specs.declared.part.NameRole.TheVariants as P
 use Rattle.acpi_names.specs.declared.part.ValueForm.{ValueForm}
 use Rattle.acpi_names.specs.declared.part.ValueForm.TheVariants as V
 use Rattle.name_spelling.specs.declared.written.Written.{Written}
@@ -40,7 +40,7 @@ external_args e args = with_number_at 2 (number_or_zero e.parameters) (with_numb
 
 -- the place of the name that an argument is
 abbrev pub place_at : ℕ → Trees → AbsolutePath → AbsolutePath
-place_at n args scope = choose (name_at n args) scope (λ name. place_of name scope)
+place_at n args scope = choose (name_at n args) scope (λ name. declared_path name scope)
 
 module _ (has : AbsolutePath → Bool) where
   -- the scope of the terms of a Scope with these arguments
@@ -72,17 +72,17 @@ module _ (shorten : Bool) (has : AbsolutePath → Bool) (says : AbsolutePath →
   opened_body false body scope = body
 
   -- the arguments of a form
-  abbrev pub part_args : Part → ValueForm → Trees → AbsolutePath → Trees
+  abbrev pub part_args : NameRole → ValueForm → Trees → AbsolutePath → Trees
   part_args P.Nothing form args scope = value_args form args scope
   part_args (P.Declares n what opens) form args scope = spelled_but n args scope
   part_args P.Alias form args scope = spelled_but 1 args scope
   part_args (P.External object parameters) form args scope =
-      choose (name_at 0 args) args (λ name. external_args (says (place_of name scope) (external_type object parameters)) args)
+      choose (name_at 0 args) args (λ name. external_args (says (declared_path name scope) (external_type object parameters)) args)
   part_args P.Scope form args scope = spelled_all false has says args scope
   part_args part form args scope = spelled_all shorten has says args scope
 
   -- its body
-  abbrev pub part_body : Part → ValueForm → Trees → Trees → AbsolutePath → Trees
+  abbrev pub part_body : NameRole → ValueForm → Trees → Trees → AbsolutePath → Trees
   part_body P.Nothing form args body scope = value_body form body scope
   part_body (P.Declares n what opens) form args body scope = opened_body opens body (place_at n args scope)
   part_body P.Scope form args body scope = spelled_all shorten has says body (opened_at has args scope)
@@ -122,11 +122,11 @@ module _ (shorten : Bool) (paths : List AbsolutePath) (named : List Bool) (table
       Knowing paths named table (λ d counts. new ≡ opened_body shorten (is_named d) (written_external counts) opens old scope)
 
   -- the arguments and the body of a form
-  abbrev pub SpellsArgs : Part → ValueForm → Trees → Trees → AbsolutePath → Type 0
+  abbrev pub SpellsArgs : NameRole → ValueForm → Trees → Trees → AbsolutePath → Type 0
   SpellsArgs part form old new scope =
       Knowing paths named table (λ d counts. new ≡ part_args shorten (is_named d) (written_external counts) part form old scope)
 
-  abbrev pub SpellsBody : Part → ValueForm → Trees → Trees → Trees → AbsolutePath → Type 0
+  abbrev pub SpellsBody : NameRole → ValueForm → Trees → Trees → Trees → AbsolutePath → Type 0
   SpellsBody part form args old new scope =
       Knowing paths named table (λ d counts. new ≡ part_body shorten (is_named d) (written_external counts) part form args old scope)
 
@@ -135,4 +135,4 @@ abbrev pub SpellsExternal : List AbsolutePath → List (Option ℕ) → ℕ → 
 SpellsExternal paths table object parameters old new scope =
     (counts : List (AbsolutePath × ℕ)) → Tabled paths table (lookup counts) →
     new ≡ choose (name_at 0 old) old
-    (λ name. external_args (written_external counts (place_of name scope) (external_type object parameters)) old)
+    (λ name. external_args (written_external counts (declared_path name scope) (external_type object parameters)) old)

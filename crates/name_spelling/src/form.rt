@@ -6,8 +6,8 @@ ghost use Rattle.acpi_names.specs.Shortest.{segments_length, short_use, short_el
 ghost use Rattle.asl_tree.specs.Names.{candidates, first_of};
 ghost use Rattle.name_spelling.specs.Forms.{form_name, form_length, nearer, around, leads_alone};
 
+use acpi_names::lookup::outer;
 use acpi_names::paths::{Paths, nearest};
-use acpi_names::place::outer;
 use asl_tree::path::{NameSeg, Path, Segs};
 use std::alloc::{AllocError, Global};
 

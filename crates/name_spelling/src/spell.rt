@@ -12,13 +12,13 @@ ghost use Rattle.name_spelling.specs.Spelling.{Grows, Knowing, SpellsAll, Spells
 ghost use Rattle.name_spelling.specs.Spelling.{SpellsExternal, place_at, opened_at, other_spelled, with_number_at};
 ghost use Rattle.acpi_names.specs.Walked.{node_tree, value_form_of};
 ghost use Rattle.term_places.specs.Places.{places_of, term_places};
-ghost use Rattle.acpi_names.specs.declared.part.Part.TheVariants as P;
+ghost use Rattle.acpi_names.specs.declared.part.NameRole.TheVariants as P;
 
 use crate::written::{other_element, other_name, spell_name, written_external};
 use acpi_names::index::{Index, reach};
-use acpi_names::mention::{Spot, spot_of};
-use acpi_names::part::{Part, ValueForm, name, part_for, value_form_for};
-use acpi_names::place::{denotes, prefixed};
+use acpi_names::lookup::{denotes, prefixed};
+use acpi_names::mention::{Occurrence, spot_of};
+use acpi_names::part::{NameRole, ValueForm, name, part_for, value_form_for};
 use asl_tree::term::{Node, Op, Term};
 use std::alloc::{AllocError, Global};
 
@@ -232,7 +232,7 @@ fn spell_form(
     index: &mut Index,
     calls: &[Option<usize>],
     shorten: bool,
-    here: Spot,
+    here: Occurrence,
     op: Op,
     args: &mut Vec<Node>,
     body: &mut Vec<Node>,
@@ -253,7 +253,7 @@ fn spell_form(
     ensures places { OnOk result (places_of body.new.items ≡ places_of body.old.items) }
 {
     match part_for(op, args, body) {
-        Part::Nothing => {
+        NameRole::Nothing => {
             spell_value(
                 alloc,
                 index,
@@ -266,38 +266,38 @@ fn spell_form(
             )?;
             Ok(())
         }
-        Part::Declares { name, what, opens } => {
+        NameRole::Declares { name, what, opens } => {
             spell_declared(alloc, index, calls, shorten, name, opens, args, body, scope)?;
             Ok(())
         }
-        Part::Alias => {
+        NameRole::Alias => {
             spell_but(alloc, index, calls, shorten, args, 1, scope)?;
             Ok(())
         }
-        Part::External { object, parameters } => {
+        NameRole::External { object, parameters } => {
             spell_external(index, calls, here, object, parameters, args, scope)?;
             Ok(())
         }
-        Part::Scope => {
+        NameRole::Scope => {
             let inner = opened_place(index, args, scope);
             spell_all(alloc, index, calls, false, args, scope)?;
             spell_all(alloc, index, calls, shorten, body, inner)?;
             Ok(())
         }
-        Part::Within => {
+        NameRole::Within => {
             spell_all(alloc, index, calls, shorten, args, scope)?;
             spell_all(alloc, index, calls, shorten, body, scope)?;
             Ok(())
         }
-        Part::Returns => {
+        NameRole::Returns => {
             spell_all(alloc, index, calls, shorten, args, scope)?;
             Ok(())
         }
-        Part::Prints => {
+        NameRole::Prints => {
             spell_all(alloc, index, calls, shorten, args, scope)?;
             Ok(())
         }
-        Part::Units(_) => {
+        NameRole::Units(_) => {
             spell_all(alloc, index, calls, shorten, args, scope)?;
             spell_all(alloc, index, calls, shorten, body, scope)?;
             Ok(())
@@ -467,7 +467,7 @@ fn opened_place(index: &Index, args: &[Node], scope: usize) -> usize
 fn spell_external(
     index: &Index,
     calls: &[Option<usize>],
-    here: Spot,
+    here: Occurrence,
     object: u64,
     parameters: Option<u64>,
     args: &mut Vec<Node>,
@@ -491,7 +491,7 @@ fn put_number(
     nodes: &mut Vec<Node>,
     place: usize,
     number: u64,
-    here: Spot,
+    here: Occurrence,
 ) -> Result<(), AllocError>
     ensures { OnOk result (trees_of nodes.new.items ≡ with_number_at place number (trees_of nodes.old.items)) }
 {

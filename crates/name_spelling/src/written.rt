@@ -3,14 +3,14 @@ ghost use Rattle.std.specs.Prelude.{◌≡◌, ◌<◌, [], None, true, length, 
 ghost use Rattle.acpi_names.specs.Paths.{is_named_in, number_in};
 ghost use Rattle.name_spelling.specs.Spelling.{external_type, type_written};
 ghost use Rattle.acpi_names.specs.Tables.{entry_at};
-ghost use Rattle.asl_tree.specs.Names.{absolute, place_of, single_segment, spelled_name};
+ghost use Rattle.asl_tree.specs.Names.{absolute, declared_path, single_segment, spelled_name};
 ghost use Rattle.acpi_names.specs.Shortest.{spelled_use, spelled_item};
 ghost use Rattle.asl_meaning.specs.Declarations.{written_type, external_object};
 
 use crate::form::{name_in, shortest_placed, shortest_used};
 use acpi_names::index::Index;
+use acpi_names::lookup::{denotes, find, from_root, prefixed, single};
 use acpi_names::paths::{Paths, nearest};
-use acpi_names::place::{denotes, find, from_root, prefixed, single};
 use asl_tree::path::Path;
 use std::alloc::{AllocError, Global};
 
@@ -161,7 +161,8 @@ pub(crate) struct Written {
 
 // What an External is written as, that says this and is first called with so many arguments.
 fn written_as(object: u64, parameters: Option<u64>, first: Option<usize>) -> Written
-    ensures { type_written result ≡ written_type (external_type object parameters) (external_object (external_type object parameters) first) }
+    ensures { type_written result
+        ≡ written_type (external_type object parameters) (external_object (external_type object parameters) first) }
 {
     let is_method = match object {
         8 => true,
@@ -212,7 +213,7 @@ pub(crate) fn written_external(
     requires { scope < length index.now.paths }
     ensures { type_written result ≡ written_type (external_type object parameters)
         (external_object (external_type object parameters)
-        (entry_at calls.now (number_in index.now.paths (place_of name.now (get_or index.now.paths scope []))))) }
+        (entry_at calls.now (number_in index.now.paths (declared_path name.now (get_or index.now.paths scope []))))) }
 {
     let outer = prefixed(&index.paths, name, scope);
     let number = find(&index.paths, outer, name.segs.as_slice());

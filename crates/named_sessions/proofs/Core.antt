@@ -17,5 +17,6 @@ pub spelled_core : (shorten : Bool) (program : Trees) → spelled_all shorten (i
 spelled_core shorten program = ap (λ has. spelled_all shorten has (says_of program) program []) (fun_ext (λ path. sym (known_is_named program path)))
 
 -- so what is spelled by the flags of the declarations and a table of the calls is the core
-pub core_spelled : (shorten : Bool) (paths : List AbsolutePath) (named : List Bool) (table : List (Option ℕ)) (program spelt : Trees) → ((d : Declarations) (counts : List (AbsolutePath × ℕ)) → Agrees paths named d → Tabled paths table (lookup counts) → spelt ≡ spelled_all shorten (is_named d) (written_external counts) program []) → Agrees paths named (declarations program) → Tabled paths table (lookup (whole_of program).calls) → spelt ≡ core_of shorten program
+pub core_spelled : (shorten : Bool) (paths : List AbsolutePath) (named : List Bool) (table : List (Option ℕ)) (program spelt : Trees) → ((d : Declarations) (counts : List (AbsolutePath × ℕ)) → Agrees paths named d → Tabled paths table (lookup counts) → spelt ≡ spelled_all shorten (is_named d) (written_external counts) program [])
+    → Agrees paths named (declarations program) → Tabled paths table (lookup (whole_of program).calls) → spelt ≡ core_of shorten program
 core_spelled shorten paths named table program spelt spells agrees tabled = spells (declarations program) (whole_of program).calls agrees tabled ∙ spelled_core shorten program

@@ -21,7 +21,8 @@ is_ready shorten program shaped names types =
     ready_all shorten (whole_of program) (says_of program) (settles program names) program [] nothing_declared shaped tt names types (within_same (declarations program))
 
 -- and bytes of that width whose definition is the encoding of that do what the program does
-pub is_faithful : (shorten : Bool) (width : Width) (short : Bool) (program : Trees) (bytes : List ℕ) → AreShaped program → name_errors program ≡ [] → type_errors program ≡ [] → width_in bytes ≡ width → length (encoded_all width short (core_of shorten program)) + 4 < 2 ^ 28 → definition_bytes bytes ≡ encoded_all width short (core_of shorten program) → IsFaithful width (known_of program) (externals program) program bytes
+pub is_faithful : (shorten : Bool) (width : Width) (short : Bool) (program : Trees) (bytes : List ℕ) → AreShaped program → name_errors program ≡ [] → type_errors program ≡ [] → width_in bytes ≡ width → length (encoded_all width short (core_of shorten program)) + 4 < 2 ^ 28
+    → definition_bytes bytes ≡ encoded_all width short (core_of shorten program) → IsFaithful width (known_of program) (externals program) program bytes
 is_faithful shorten width short program bytes shaped names types wide fits is =
     let h = faithful width (known_of program) short (externals program) (core_of shorten program) bytes (knows_start program names) (is_ready shorten program shaped names types) wide fits is in
     record {

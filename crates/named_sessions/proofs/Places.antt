@@ -13,11 +13,12 @@ use Rattle.asl_tree.specs.declared.path.Path.{Path}
 use Rattle.acpi_values.specs.declared.operator.EventOp.TheVariants as EventOp
 use Rattle.acpi_values.specs.declared.operator.Plain.{Plain}
 use Rattle.asl_tree.specs.FieldItems.{FieldItem, UnitItem, SkipItem, OffsetItem, AccessItem, ConnectionItem, ToName, ToBytes}
-use Rattle.asl_tree.specs.Names.{place_of, denoted}
+use Rattle.asl_tree.specs.Names.{declared_path, denoted}
 use Rattle.asl_tree.specs.Tree.{At, Tree, Use, Call, Apply, Buffer, Package, VarPackage, CondRefOf, Return, Name, Alias, External, Method, Mutex, Event, Container', Scope, Trees, no_trees, tree, count, OperationRegion, Field, IndexField, BankField, CreateField, UnitName, If, ElseIf, Else, While, Operated, Assigned, AssignedBy, Switch, Case, Default, For, Print}
 use Rattle.asl_meaning.specs.Declarations.{As, ExternalType, Declarations, nothing_declared, is_named, scope_path, with_declared, declare, declare_item}
 use Rattle.asl_meaning.specs.Meaning.{SpotForm, OfResult, OfInside, NoSpot, spot_form}
-use Rattle.acpi_names.specs.Errors.{NameError, Twice, DeclaredHere, Missing, NoContainer, LeavesRoot, Differs, TooLong, WrongCount, WrongKind, Asked, Anything, AnObject, AValue, AMutex, AnEvent, AUnit, ARegion, asked_by, unless, Whole, whole_of, step_errors, length_errors, is_new, has_parent, agrees_with, final, is_container, takes_none, takes, is_mutex, is_event, is_unit, is_region, unit_path, declared_errors, external_errors, use_errors, call_errors, scope_errors, item_errors, items_errors, cond_errors, names, names_all, name_end, asked_types, used_types, letter_types, spot_form_types, element_types, types, spot_types, first_types, operand_types, spot_types_all, element_types_all, types_all, name_errors, type_errors}
+use Rattle.acpi_names.specs.Errors.{NameError, Twice, DeclaredHere, Missing, NoContainer, LeavesRoot, Differs, TooLong, WrongCount, WrongKind, Asked, Anything, AnObject, AValue, AMutex, AnEvent, AUnit, ARegion, asked_by, unless, Whole, whole_of, step_errors, length_errors, is_new, has_parent, agrees_with, final, is_container, takes_none, takes, is_mutex, is_event, is_unit, is_region}
+use Rattle.acpi_names.specs.Errors.{unit_path, declared_errors, external_errors, use_errors, call_errors, scope_errors, item_errors, items_errors, cond_errors, names, names_all, name_end, asked_types, used_types, letter_types, spot_form_types, element_types, types, spot_types, first_types, operand_types, spot_types_all, element_types_all, types_all, name_errors, type_errors}
 use Rattle.named_sessions.specs.Places.{IsIn, IsItemWithin, AreItemsWithin, IsWithin, AreWithin, at_of}
 
 -- an External that may be called and does not say how many arguments it takes
@@ -66,12 +67,12 @@ module _ (files : ℕ) where
   module _ (whole : Whole) where
     declared_told : (at : At) (name : Path) (scope : AbsolutePath) (d : Declarations) → IsIn files at → AreTold (declared_errors whole at name scope d)
     declared_told at name scope d h =
-        let path : AbsolutePath = place_of name scope in
+        let path : AbsolutePath = declared_path name scope in
         both _ _ (unless_told (is_new d path) (Twice at path) h) (both _ _ (step_told at name scope h) (both _ _ (unless_told (has_parent whole.all path) (Missing at name) h) (length_told at name path h)))
 
     external_told : (here at : At) (name : Path) (e : ExternalType) (scope : AbsolutePath) (d : Declarations) → IsIn files here → IsIn files at → AreTold (external_errors whole here at name e scope d)
     external_told here at name e scope d k h =
-        let path : AbsolutePath = place_of name scope in
+        let path : AbsolutePath = declared_path name scope in
         both _ _ (unless_told (not (is_some (lookup whole.all.declared path))) (DeclaredHere at path) h)
         (both _ _ (step_told at name scope h) (both _ _ (length_told at name path h) (unless_told (agrees_with (lookup d.external path) e) (Differs here name) k)))
 
@@ -120,7 +121,7 @@ module _ (files : ℕ) where
       names_told (Name at name value) scope d h = both _ _ (declared_told at name scope d h.0) (names_told value scope d h.1)
       names_told (Alias from source at name) scope d h = both _ _ (use_told from source scope h.0) (declared_told at name scope d h.1)
       names_told (External here at name type parameters) scope d h = external_told here at name (record { type = type; parameters = parameters }) scope d h.0 h.1
-      names_told (Method at name flags body) scope d h = both _ _ (declared_told at name scope d h.0) (names_all_told body (place_of name scope) (with_declared (place_of name scope) (As (MethodObject flags)) d) h.1)
+      names_told (Method at name flags body) scope d h = both _ _ (declared_told at name scope d h.0) (names_all_told body (declared_path name scope) (with_declared (declared_path name scope) (As (MethodObject flags)) d) h.1)
       names_told (Mutex at name level) scope d h = declared_told at name scope d h
       names_told (Event at name) scope d h = declared_told at name scope d h
       names_told (If test body) scope d h = both _ _ (names_told test scope d h.0) (names_all_told body scope d h.1)
@@ -139,7 +140,7 @@ module _ (files : ℕ) where
           both _ _ (use_told from region scope h.1) (both _ _ (use_told to bank scope h.2) (both _ _ (names_told value scope d h.3) (items_told items scope d h.4)))
       names_told (CreateField form args at name) scope d h = both _ _ (names_all_told args scope d h.0) (declared_told at name scope d h.1)
       names_told (Container' kind at name body) scope d h =
-          both _ _ (declared_told at name scope d h.0) (names_all_told body (place_of name scope) (with_declared (place_of name scope) (As (ContainerObject kind)) d) h.1)
+          both _ _ (declared_told at name scope d h.0) (names_all_told body (declared_path name scope) (with_declared (declared_path name scope) (As (ContainerObject kind)) d) h.1)
       names_told (Scope here at name body) scope d h =
           both _ _ (both _ _ (use_told at name scope h.1) (scope_told here at name scope d h.0 h.1)) (names_all_told body (scope_path d name scope) d h.2)
       names_told _ scope d h = tt
@@ -214,8 +215,8 @@ module _ (files : ℕ) where
       types_told (CreateField form args at name) scope h = operand_types_told Anything tt (field_letters form) args scope h.0
       types_told (Return value) scope h = types_told value scope h
       types_told (Name at name value) scope h = types_told value scope h.1
-      types_told (Method at name flags body) scope h = types_all_told body (place_of name scope) h.1
-      types_told (Container' kind at name body) scope h = types_all_told body (place_of name scope) h.1
+      types_told (Method at name flags body) scope h = types_all_told body (declared_path name scope) h.1
+      types_told (Container' kind at name body) scope h = types_all_told body (declared_path name scope) h.1
       types_told (Scope here at name body) scope h = types_all_told body (choose (denoted (is_named whole.all) name scope) [] (λ path. path)) h.2
       types_told _ scope h = tt
 

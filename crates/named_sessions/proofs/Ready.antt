@@ -12,16 +12,18 @@ use Rattle.acpi_state.specs.Objects.{Object, DataObject, MethodObject, Container
 use Rattle.acpi_state.specs.Outcomes.{choose}
 use Rattle.acpi_state.proofs.Lookups.{is_same_path-true}
 use Rattle.asl_tree.specs.declared.path.Path.{Path}
-use Rattle.asl_tree.specs.Names.{AliasTo, Known, is_known, kind_at, end_of, below, prefix_scope, place_of, enclosing, single_in, search_path, candidates, first_of, denoted, spelled_by, is_searched, absolute, spelled_element}
+use Rattle.asl_tree.specs.Names.{AliasTo, Known, is_known, kind_at, end_of, below, prefix_scope, declared_path, enclosing, single_in, search_path, candidates, first_of, denoted, spelled_by, is_searched, absolute, spelled_element}
 use Rattle.asl_meaning.specs.Declarations.{Declared, As, AliasOf, ExternalType, Declarations, in_root, is_named, scope_path, with_declared, with_external, declare, declare_all, kind_of, as_unit, as_buffer_field, declare_items}
 use Rattle.asl_meaning.specs.Meaning.{SpotForm, OfResult, OfInside, NoSpot, spot_form}
 use Rattle.acpi_state.specs.FieldActs.{region_letters, field_letters}
 use Rattle.asl_tree.specs.FieldItems.{FieldItem, UnitItem, SkipItem, OffsetItem, AccessItem, ConnectionItem, ToName, ToBytes}
-use Rattle.asl_tree.specs.Tree.{At, Tree, Integer, Constant, String, InSlot, Debug, Omitted, Raw, Use, Call, Apply, Buffer, Package, VarPackage, CondRefOf, Return, Name, Alias, External, Method, Mutex, Event, Container', Scope, Fill, Misshapen, Operated, Assigned, AssignedBy, Trees, no_trees, tree, count, OperationRegion, Field, IndexField, BankField, CreateField, UnitName, If, ElseIf, Else, While, Break, Continue, Item, Switch, Case, Default, For, Print}
+use Rattle.asl_tree.specs.Tree.{At, Tree, Integer, Constant, String, InSlot, Debug, Omitted, Raw, Use, Call, Apply, Buffer, Package, VarPackage, CondRefOf, Return, Name, Alias, External, Method, Mutex, Event, Container', Scope, Fill, Misshapen}
+use Rattle.asl_tree.specs.Tree.{Operated, Assigned, AssignedBy, Trees, no_trees, tree, count, OperationRegion, Field, IndexField, BankField, CreateField, UnitName, If, ElseIf, Else, While, Break, Continue, Item, Switch, Case, Default, For, Print}
 use Rattle.asl_meaning.proofs.Searches.{first_is_known, absolute_candidates}
 use Rattle.aml_code.specs.Fronts.{is_segment, AreSegments, IsName, HasStart, IsUsedName}
 use Rattle.aml_sessions.specs.Ready.{is_expression, AtMostOne, Denotes, IsSought, Declares, IsElementName, CondReady, SpotReady, LetterReady, ElementReady, IsReady, IsSpot, IsAlone, AreOperands, AreSpots, AreValues, AreElements, AreReady, AreItems, AreUnits, IsFound}
-use Rattle.acpi_names.specs.Errors.{NameError, Twice, Missing, NoContainer, WrongCount, Asked, Anything, AUnit, ARegion, asked_by, unless, Whole, step_errors, is_new, final, is_container, takes_none, takes, declared_errors, use_errors, call_errors, scope_errors, names, names_all, name_end, types, types_all, cond_errors, asked_types, used_types, letter_types, spot_form_types, element_types, spot_types, first_types, operand_types, spot_types_all, element_types_all, unit_path, items_errors}
+use Rattle.acpi_names.specs.Errors.{NameError, Twice, Missing, NoContainer, WrongCount, Asked, Anything, AUnit, ARegion, asked_by, unless, Whole, step_errors, is_new, final, is_container, takes_none, takes, declared_errors, use_errors, call_errors, scope_errors}
+use Rattle.acpi_names.specs.Errors.{names, names_all, name_end, types, types_all, cond_errors, asked_types, used_types, letter_types, spot_form_types, element_types, spot_types, first_types, operand_types, spot_types_all, element_types_all, unit_path, items_errors}
 use Rattle.acpi_names.specs.Shortest.{shortest, last_alone, upward, unsearched, leads_to, short_use, short_element, spelled_use, spelled_item}
 use Rattle.acpi_names.proofs.Shortest.{Each, each_kept, shortest_keeps, short_leads, short_element_placed}
 use Rattle.acpi_names.specs.Spelled.{spelled, spelled_all, element_spelled, items_spelled, spelled_elements}
@@ -74,7 +76,7 @@ below_segments : (scope : AbsolutePath) (segs : List NameSeg) → AreSegments sc
 below_segments scope [] h k = h
 below_segments scope (seg ∷ segs) h k = below_segments (seg ∷ scope) segs (k.0, h) k.1
 
-pub place_segments : (name : Path) (scope : AbsolutePath) → IsName name → AreSegments scope → AreSegments (place_of name scope)
+pub place_segments : (name : Path) (scope : AbsolutePath) → IsName name → AreSegments scope → AreSegments (declared_path name scope)
 place_segments name scope is h = below_segments (prefix_scope name scope) name.segs (by_root name.root) is.segments
   where
     by_root : (root : Bool) → AreSegments (if root then [] else drop name.up scope)
@@ -100,10 +102,10 @@ enclosing_segments seg (outer ∷ scope) h k = ((h, k), enclosing_segments seg s
 search_segments : (name : Path) (scope : AbsolutePath) → IsName name → AreSegments scope → AllSegments (search_path name scope)
 search_segments name scope is h = by_single name.root name.up name.segs is.segments
   where
-    other : AllSegments (place_of name scope ∷ [])
+    other : AllSegments (declared_path name scope ∷ [])
     other = (place_segments name scope is h, tt)
 
-    by_single : (root : Bool) (up : ℕ) (segs : List NameSeg) → AreSegments segs → AllSegments (choose (single_in root up segs) (place_of name scope ∷ []) (λ seg. enclosing seg scope))
+    by_single : (root : Bool) (up : ℕ) (segs : List NameSeg) → AreSegments segs → AllSegments (choose (single_in root up segs) (declared_path name scope ∷ []) (λ seg. enclosing seg scope))
     by_single false zero (seg ∷ []) k = enclosing_segments seg scope k.0 h
     by_single _ _ _ k = other
 
@@ -145,8 +147,8 @@ count_same shorten has says no_trees scope = refl
 count_same shorten has says (tree t ts) scope = ap suc (count_same shorten has says ts scope)
 
 module _ (whole : Whole) where
-  pub new_of : (at : At) (name : Path) (scope : AbsolutePath) (d : Declarations) → declared_errors whole at name scope d ≡ [] → is_new d (place_of name scope) ≡ true
-  new_of at name scope d e = holds (is_new d (place_of name scope)) (Twice at (place_of name scope)) (left_none _ _ e)
+  pub new_of : (at : At) (name : Path) (scope : AbsolutePath) (d : Declarations) → declared_errors whole at name scope d ≡ [] → is_new d (declared_path name scope) ≡ true
+  new_of at name scope d e = holds (is_new d (declared_path name scope)) (Twice at (declared_path name scope)) (left_none _ _ e)
 
   within_items : (items : List (FieldItem UnitName)) (scope : AbsolutePath) (d : Declarations) → items_errors whole items scope d ≡ [] → Within d (declare_items items scope d)
   within_items [] scope d e = within_same d
@@ -162,19 +164,19 @@ module _ (whole : Whole) where
   -- a term without errors declares nothing twice
   mutual
     within : (t : Tree) (scope : AbsolutePath) (d : Declarations) → names whole t scope d ≡ [] → Within d (declare t scope d)
-    within (Name at name value) scope d e = within_new d (place_of name scope) (As DataObject) (new_of at name scope d (left_none _ (names whole value scope d) e))
+    within (Name at name value) scope d e = within_new d (declared_path name scope) (As DataObject) (new_of at name scope d (left_none _ (names whole value scope d) e))
     within (Alias from source at name) scope d e =
-        within_new d (place_of name scope) (AliasOf source scope) (new_of at name scope d (right_none (use_errors whole from source scope) _ e))
-    within (External here at name type parameters) scope d e = by_root (in_root (place_of name scope))
+        within_new d (declared_path name scope) (AliasOf source scope) (new_of at name scope d (right_none (use_errors whole from source scope) _ e))
+    within (External here at name type parameters) scope d e = by_root (in_root (declared_path name scope))
       where
-        by_root : (c : Bool) → Within d (with_external c (place_of name scope) (record { type = type; parameters = parameters }) d)
+        by_root : (c : Bool) → Within d (with_external c (declared_path name scope) (record { type = type; parameters = parameters }) d)
         by_root true = within_same d
         by_root false = record { by = λ path x h. h }
     within (Method at name flags body) scope d e =
-        let d' = with_declared (place_of name scope) (As (MethodObject flags)) d in
-        within_then d d' (declare_all body (place_of name scope) d') (within_new d (place_of name scope) (As (MethodObject flags)) (new_of at name scope d (left_none _ (names_all whole body (place_of name scope) d') e))) (within_all body (place_of name scope) d' (right_none (declared_errors whole at name scope d) _ e))
-    within (Mutex at name level) scope d e = within_new d (place_of name scope) (As (MutexObject level)) (new_of at name scope d e)
-    within (Event at name) scope d e = within_new d (place_of name scope) (As EventObject) (new_of at name scope d e)
+        let d' = with_declared (declared_path name scope) (As (MethodObject flags)) d in
+        within_then d d' (declare_all body (declared_path name scope) d') (within_new d (declared_path name scope) (As (MethodObject flags)) (new_of at name scope d (left_none _ (names_all whole body (declared_path name scope) d') e))) (within_all body (declared_path name scope) d' (right_none (declared_errors whole at name scope d) _ e))
+    within (Mutex at name level) scope d e = within_new d (declared_path name scope) (As (MutexObject level)) (new_of at name scope d e)
+    within (Event at name) scope d e = within_new d (declared_path name scope) (As EventObject) (new_of at name scope d e)
     within (If test body) scope d e = within_all body scope d (right_none (names whole test scope d) _ e)
     within (ElseIf test body) scope d e = within_all body scope d (right_none (names whole test scope d) _ e)
     within (Else body) scope d e = within_all body scope d e
@@ -184,15 +186,15 @@ module _ (whole : Whole) where
     within (Switch value cases) scope d e = within_all cases scope d (right_none (names whole value scope d) _ e)
     within (Case value body) scope d e = within_all body scope d (right_none (names whole value scope d) _ e)
     within (Default body) scope d e = within_all body scope d e
-    within (OperationRegion at name space args) scope d e = within_new d (place_of name scope) (As (RegionObject space 0 0)) (new_of at name scope d (left_none _ (names_all whole args scope d) e))
+    within (OperationRegion at name space args) scope d e = within_new d (declared_path name scope) (As (RegionObject space 0 0)) (new_of at name scope d (left_none _ (names_all whole args scope d) e))
     within (Field here from region flags items) scope d e = within_items items scope d (right_none (use_errors whole from region scope) _ e)
     within (IndexField here from index to register flags items) scope d e = within_items items scope d (right_none (use_errors whole to register scope) _ (right_none (use_errors whole from index scope) _ e))
     within (BankField here from region to bank value flags items) scope d e =
         within_items items scope d (right_none (names whole value scope d) _ (right_none (use_errors whole to bank scope) _ (right_none (use_errors whole from region scope) _ e)))
-    within (CreateField form args at name) scope d e = within_new d (place_of name scope) as_buffer_field (new_of at name scope d (right_none (names_all whole args scope d) _ e))
+    within (CreateField form args at name) scope d e = within_new d (declared_path name scope) as_buffer_field (new_of at name scope d (right_none (names_all whole args scope d) _ e))
     within (Container' kind at name body) scope d e =
-        let d' = with_declared (place_of name scope) (As (ContainerObject kind)) d in
-        within_then d d' (declare_all body (place_of name scope) d') (within_new d (place_of name scope) (As (ContainerObject kind)) (new_of at name scope d (left_none _ (names_all whole body (place_of name scope) d') e))) (within_all body (place_of name scope) d' (right_none (declared_errors whole at name scope d) _ e))
+        let d' = with_declared (declared_path name scope) (As (ContainerObject kind)) d in
+        within_then d d' (declare_all body (declared_path name scope) d') (within_new d (declared_path name scope) (As (ContainerObject kind)) (new_of at name scope d (left_none _ (names_all whole body (declared_path name scope) d') e))) (within_all body (declared_path name scope) d' (right_none (declared_errors whole at name scope d) _ e))
     within (Scope here at name body) scope d e = within_all body (scope_path d name scope) d (right_none (use_errors whole at name scope ++ scope_errors whole here at name scope d) _ e)
     within _ scope d e = within_same d
 
@@ -346,10 +348,10 @@ module _ (shorten : Bool) (whole : Whole) (says : AbsolutePath → ExternalType 
       f : Found false name scope
       f = found_written at name scope used valid e
 
-      path_is : choose (denoted has name scope) (place_of name scope) (λ path. path) ≡ f.path
-      path_is = ap (λ o. choose o (place_of name scope) (λ path. path)) f.denotes
+      path_is : choose (denoted has name scope) (declared_path name scope) (λ path. path) ≡ f.path
+      path_is = ap (λ o. choose o (declared_path name scope) (λ path. path)) f.denotes
 
-      by_searched : (c : Bool) → is_searched name ≡ c → IsElementName known (if c then absolute (if c then choose (denoted has name scope) (place_of name scope) (λ path. path) else place_of name scope) else name)
+      by_searched : (c : Bool) → is_searched name ≡ c → IsElementName known (if c then absolute (if c then choose (denoted has name scope) (declared_path name scope) (λ path. path) else declared_path name scope) else name)
       by_searched true s = subst (λ p. IsElementName known (absolute p)) (sym path_is) (record { used = absolute_used f.path f.segments (settled.short f.path f.there); single = refl })
       by_searched false s = record { used = used; single = s }
 
@@ -372,9 +374,9 @@ module _ (shorten : Bool) (whole : Whole) (says : AbsolutePath → ExternalType 
       by_searched false s = by_shorten shorten s
 
   -- what is declared without error is known as that
-  declared_known : (at : At) (name : Path) (scope : AbsolutePath) (d : Declarations) (x : Declared) → declared_errors whole at name scope d ≡ [] → Within (with_declared (place_of name scope) x d) whole.all → IsName name → Declares known name scope (kind_of (is_named whole.all) x)
+  declared_known : (at : At) (name : Path) (scope : AbsolutePath) (d : Declarations) (x : Declared) → declared_errors whole at name scope d ≡ [] → Within (with_declared (declared_path name scope) x d) whole.all → IsName name → Declares known name scope (kind_of (is_named whole.all) x)
   declared_known at name scope d x e w written =
-      let path = place_of name scope in
+      let path = declared_path name scope in
       record { written = written; is = settled.kinds path x (neither (in_root path) (is_some (lookup d.declared path)) (new_of whole at name scope d e)).0 (w.by path x (there_now d path x)) }
 
   -- an operand by its letter
@@ -427,8 +429,13 @@ module _ (shorten : Bool) (whole : Whole) (says : AbsolutePath → ExternalType 
               (b.0, eqb-true (operand_count object) (count args) b.1 ∙ sym (count_same shorten has says args scope))),
           ready_values args scope d shaped.1 valid (right_none (use_errors whole at name scope ++ call_errors whole at name (count args) scope) _ e) (right_none (unless (takes (count args) (name_end whole name scope)) (WrongCount at name)) _ y),
         )
-    ready_value (Apply op args targets) scope d x shaped valid e y =
-        (shaped.0, ready_operands (asked_by op) (row_of op).operands args scope d shaped.1 valid (left_none _ (names_all whole targets scope d) e) (left_none _ (spot_types_all whole targets scope) y), count_same shorten has says targets scope ∙ shaped.2, ready_spots targets scope d shaped.3 valid (right_none (names_all whole args scope d) _ e) (right_none (operand_types whole (asked_by op) (row_of op).operands args scope) _ y))
+    ready_value (Apply op args targets) scope d x shaped valid e y = (
+      shaped.0,
+      ready_operands (asked_by op) (row_of op).operands args scope d shaped.1 valid (left_none _ (names_all whole targets scope d) e) (left_none _ (spot_types_all whole targets scope) y),
+      count_same shorten has says targets scope
+          ∙ shaped.2,
+      ready_spots targets scope d shaped.3 valid (right_none (names_all whole args scope d) _ e) (right_none (operand_types whole (asked_by op) (row_of op).operands args scope) _ y),
+    )
     ready_value (Buffer size bytes) scope d x shaped valid e y = (same_expression shorten has says size scope ∙ shaped.0, ready_value size scope d shaped.0 shaped.1 valid e y)
     ready_value (Package n elements) scope d x shaped valid e y = (shaped.0, ready_elements elements scope d shaped.1 valid e y)
     ready_value (VarPackage size elements) scope d x shaped valid e y =
@@ -446,8 +453,15 @@ module _ (shorten : Bool) (whole : Whole) (says : AbsolutePath → ExternalType 
     ready_spot Debug scope d shaped valid e y = tt
     ready_spot (InSlot slot) scope d shaped valid e y = shaped
     ready_spot (Use at name) scope d shaped valid e y = let f = found shorten at name scope shaped valid e in (f.path, f.spells)
-    ready_spot (Apply op args targets) scope d shaped valid e y =
-        (shaped.0, by_spot_form whole (spot_form op) _ _ _ _ _ _ shaped.1 y (λ h y. (ready_operands (asked_by op) (row_of op).operands args scope d h.0 valid (left_none _ (names_all whole targets scope d) e) (left_none _ (spot_types_all whole targets scope) y), count_same shorten has says targets scope ∙ h.1, ready_spots targets scope d h.2 valid (right_none (names_all whole args scope d) _ e) (right_none (operand_types whole (asked_by op) (row_of op).operands args scope) _ y))) (λ h y. ready_alone args targets scope d h valid (left_none _ (names_all whole targets scope d) e) y))
+    ready_spot (Apply op args targets) scope d shaped valid e y = (
+      shaped.0,
+      by_spot_form whole (spot_form op) _ _ _ _ _ _ shaped.1 y (λ h y. (
+        ready_operands (asked_by op) (row_of op).operands args scope d h.0 valid (left_none _ (names_all whole targets scope d) e) (left_none _ (spot_types_all whole targets scope) y),
+        count_same shorten has says targets scope
+            ∙ h.1,
+        ready_spots targets scope d h.2 valid (right_none (names_all whole args scope d) _ e) (right_none (operand_types whole (asked_by op) (row_of op).operands args scope) _ y),
+      )) (λ h y. ready_alone args targets scope d h valid (left_none _ (names_all whole targets scope d) e) y),
+    )
     ready_spot (Operated op args) scope d shaped valid e y = absurd shaped.0
     ready_spot t scope d shaped valid e y = absurd shaped
 
@@ -456,8 +470,15 @@ module _ (shorten : Bool) (whole : Whole) (says : AbsolutePath → ExternalType 
     ready_cond Omitted scope d shaped valid e y = tt
     ready_cond Debug scope d shaped valid e y = tt
     ready_cond (InSlot slot) scope d shaped valid e y = shaped
-    ready_cond (Apply op args targets) scope d shaped valid e y =
-        (shaped.0, by_spot_form whole (spot_form op) _ _ _ _ _ _ shaped.1 y (λ h y. (ready_operands (asked_by op) (row_of op).operands args scope d h.0 valid (left_none _ (names_all whole targets scope d) e) (left_none _ (spot_types_all whole targets scope) y), count_same shorten has says targets scope ∙ h.1, ready_spots targets scope d h.2 valid (right_none (names_all whole args scope d) _ e) (right_none (operand_types whole (asked_by op) (row_of op).operands args scope) _ y))) (λ h y. ready_alone args targets scope d h valid (left_none _ (names_all whole targets scope d) e) y))
+    ready_cond (Apply op args targets) scope d shaped valid e y = (
+      shaped.0,
+      by_spot_form whole (spot_form op) _ _ _ _ _ _ shaped.1 y (λ h y. (
+        ready_operands (asked_by op) (row_of op).operands args scope d h.0 valid (left_none _ (names_all whole targets scope d) e) (left_none _ (spot_types_all whole targets scope) y),
+        count_same shorten has says targets scope
+            ∙ h.1,
+        ready_spots targets scope d h.2 valid (right_none (names_all whole args scope d) _ e) (right_none (operand_types whole (asked_by op) (row_of op).operands args scope) _ y),
+      )) (λ h y. ready_alone args targets scope d h valid (left_none _ (names_all whole targets scope d) e) y),
+    )
     ready_cond (Operated op args) scope d shaped valid e y = absurd shaped.0
     ready_cond t scope d shaped valid e y = absurd shaped
 
@@ -549,7 +570,7 @@ module _ (shorten : Bool) (whole : Whole) (says : AbsolutePath → ExternalType 
         (f.path, f.spells, record { written = k.written; is = k.is ∙ ap (λ o. Some (AliasTo o)) (sym (same_denoted source scope) ∙ f.denotes) })
     ready (External here at name type parameters) scope d shaped valid e y w = shaped
     ready (Method at name flags body) scope d shaped valid e y w =
-        let path = place_of name scope in
+        let path = declared_path name scope in
         let d' = with_declared path (As (MethodObject flags)) d in
         let e' = right_none (declared_errors whole at name scope d) _ e in
         let w' = within_then d' (declare_all body path d') whole.all (within_all whole body path d' e') w in
@@ -557,7 +578,7 @@ module _ (shorten : Bool) (whole : Whole) (says : AbsolutePath → ExternalType 
     ready (Mutex at name level) scope d shaped valid e y w = (declared_known at name scope d (As (MutexObject level)) e w shaped.0, shaped.1)
     ready (Event at name) scope d shaped valid e y w = declared_known at name scope d (As EventObject) e w shaped
     ready (Container' kind at name body) scope d shaped valid e y w =
-        let path = place_of name scope in
+        let path = declared_path name scope in
         let d' = with_declared path (As (ContainerObject kind)) d in
         let e' = right_none (declared_errors whole at name scope d) _ e in
         let w' = within_then d' (declare_all body path d') whole.all (within_all whole body path d' e') w in
@@ -594,8 +615,16 @@ module _ (shorten : Bool) (whole : Whole) (says : AbsolutePath → ExternalType 
         let e' = right_none (use_errors whole from region scope) _ e in
         let e'' = right_none (use_errors whole to bank scope) _ e' in
         let y' = right_none (asked_types whole AUnit to bank scope) (types whole value scope) (right_none (asked_types whole (ARegion here) from region scope) _ y) in
-        let units = ready_units items scope d 0 shaped.5 valid (right_none (names whole value scope d) _ e'') w in
-        (is_found from region scope shaped.0 valid (left_none _ (use_errors whole to bank scope ++ (names whole value scope d ++ items_errors whole items scope d)) e), is_found to bank scope shaped.1 valid (left_none _ (names whole value scope d ++ items_errors whole items scope d) e'), same_expression shorten has says value scope ∙ shaped.2, ready_value value scope d shaped.2 shaped.3 valid (left_none _ (items_errors whole items scope d) e'') y', shaped.4, ready_items items scope 0 shaped.5 units, units)
+        let units = ready_units items scope d 0 shaped.5 valid (right_none (names whole value scope d) _ e'') w in (
+          is_found from region scope shaped.0 valid (left_none _ (use_errors whole to bank scope ++ (names whole value scope d ++ items_errors whole items scope d)) e),
+          is_found to bank scope shaped.1 valid (left_none _ (names whole value scope d ++ items_errors whole items scope d) e'),
+          same_expression shorten has says value scope
+              ∙ shaped.2,
+          ready_value value scope d shaped.2 shaped.3 valid (left_none _ (items_errors whole items scope d) e'') y',
+          shaped.4,
+          ready_items items scope 0 shaped.5 units,
+          units,
+        )
     ready (CreateField form args at name) scope d shaped valid e y w =
         (ready_operands Anything (field_letters form) args scope d shaped.0 valid (left_none _ (declared_errors whole at name scope d) e) y, declared_known at name scope d as_buffer_field (right_none (names_all whole args scope d) _ e) w shaped.1)
     ready (Item item) scope d shaped valid e y w = absurd shaped

@@ -8,7 +8,7 @@ use Rattle.acpi_state.specs.Outcomes.{choose}
 use Rattle.acpi_state.specs.Objects.{Object, DataObject, MethodObject, ContainerObject, ExternalObject, Names, lookup, root_objects, MutexObject, EventObject, as_declared, RegionObject}
 use Rattle.acpi_state.proofs.Lookups.{is_same_path-true}
 use Rattle.asl_tree.specs.declared.path.Path.{Path}
-use Rattle.asl_tree.specs.Names.{Is, Known, is_known, kind_at, place_of}
+use Rattle.asl_tree.specs.Names.{Is, Known, is_known, kind_at, declared_path}
 use Rattle.asl_meaning.specs.Declarations.{Declared, As, AliasOf, ExternalType, Declarations, nothing_declared, in_root, is_named, scope_path, with_declared, with_external, declare, declare_all, declarations, calls_all, called, external_object, kind_of, declared_kinds, external_names, as_known, externals, known_of, as_unit, as_buffer_field, declare_items}
 use Rattle.asl_tree.specs.FieldItems.{FieldItem, UnitItem, SkipItem, OffsetItem, AccessItem, ConnectionItem, ToName, ToBytes}
 use Rattle.asl_tree.specs.Tree.{At, Tree, Name, Alias, External, Method, Container', Scope, Trees, no_trees, tree, Mutex, Event, OperationRegion, Field, IndexField, BankField, CreateField, UnitName, If, ElseIf, Else, While, Switch, Case, Default, For, Print}
@@ -91,7 +91,8 @@ lookup_external : (calls : List (AbsolutePath × ℕ)) (xs : List (AbsolutePath 
 lookup_external calls [] ys p e h = absurd (grind arith)
 lookup_external calls (x ∷ xs) ys p e h = by_same (is_same_path x.0 p) refl h (lookup_external calls xs ys p e)
   where
-    by_same : (c : Bool) → is_same_path x.0 p ≡ c → (if c then Some x.1 else lookup xs p) ≡ Some e → (lookup xs p ≡ Some e → lookup (external_names calls xs ++ ys) p ≡ Some (ExternalObject (external_object e (lookup calls p)))) → (if c then Some (ExternalObject (external_object x.1 (lookup calls x.0))) else lookup (external_names calls xs ++ ys) p) ≡ Some (ExternalObject (external_object e (lookup calls p)))
+    by_same : (c : Bool) → is_same_path x.0 p ≡ c → (if c then Some x.1 else lookup xs p) ≡ Some e → (lookup xs p ≡ Some e → lookup (external_names calls xs ++ ys) p ≡ Some (ExternalObject (external_object e (lookup calls p))))
+        → (if c then Some (ExternalObject (external_object x.1 (lookup calls x.0))) else lookup (external_names calls xs ++ ys) p) ≡ Some (ExternalObject (external_object e (lookup calls p)))
     by_same true same h go =
         ap (λ q. Some (ExternalObject (external_object (or_type e q) (lookup calls x.0)))) h ∙ ap (λ q. Some (ExternalObject (external_object e (lookup calls q)))) (is_same_path-true x.0 p same)
     by_same false same h go = go h
@@ -164,9 +165,9 @@ not_true true e = absurd (grind arith)
 not_true false e = refl
 
 module _ (whole : Whole) where
-  declared_good : (at : At) (name : Path) (scope : AbsolutePath) (d : Declarations) (x : Declared) → declared_errors whole at name scope d ≡ [] → AreGood whole.all d → AreGood whole.all (with_declared (place_of name scope) x d)
+  declared_good : (at : At) (name : Path) (scope : AbsolutePath) (d : Declarations) (x : Declared) → declared_errors whole at name scope d ≡ [] → AreGood whole.all d → AreGood whole.all (with_declared (declared_path name scope) x d)
   declared_good at name scope d x e g =
-      let path = place_of name scope in
+      let path = declared_path name scope in
       record {
         short = (less_of (length path) 255 (holds (nat_le (length path) 255) (TooLong at name) (right_none (unless (has_parent whole.all path) (Missing at name)) _ (right_none (step_errors at name scope) _ (right_none (unless (is_new d path) (Twice at path)) _ e)))), g.short);
         short_external = g.short_external;
@@ -176,14 +177,14 @@ module _ (whole : Whole) where
         alike = g.alike;
       }
 
-  external_good : (here at : At) (name : Path) (x : ExternalType) (scope : AbsolutePath) (d : Declarations) → external_errors whole here at name x scope d ≡ [] → AreGood whole.all d → AreGood whole.all (with_external (in_root (place_of name scope)) (place_of name scope) x d)
-  external_good here at name x scope d e g = by_root (in_root (place_of name scope)) refl
+  external_good : (here at : At) (name : Path) (x : ExternalType) (scope : AbsolutePath) (d : Declarations) → external_errors whole here at name x scope d ≡ [] → AreGood whole.all d → AreGood whole.all (with_external (in_root (declared_path name scope)) (declared_path name scope) x d)
+  external_good here at name x scope d e g = by_root (in_root (declared_path name scope)) refl
     where
-      by_first : in_root (place_of name scope) ≡ false → (o : Option ExternalType) → lookup d.external (place_of name scope) ≡ o
-          → AreGood whole.all (record d { external = choose o ((place_of name scope, x) ∷ d.external) (λ first. d.external) })
+      by_first : in_root (declared_path name scope) ≡ false → (o : Option ExternalType) → lookup d.external (declared_path name scope) ≡ o
+          → AreGood whole.all (record d { external = choose o ((declared_path name scope, x) ∷ d.external) (λ first. d.external) })
       by_first out (Some first) there = g
       by_first out None there =
-          let path = place_of name scope in
+          let path = declared_path name scope in
           let e' = right_none (step_errors at name scope) _ (right_none (unless (not (is_some (lookup whole.all.declared path))) (DeclaredHere at path)) _ e) in
           record {
             short = g.short;
@@ -194,9 +195,9 @@ module _ (whole : Whole) where
             alike = (holds (agrees_with (lookup d.external path) x) (Differs here name) (right_none (length_errors at name path) _ e'), g.alike);
           }
 
-      by_root : (c : Bool) → in_root (place_of name scope) ≡ c → AreGood whole.all (with_external c (place_of name scope) x d)
+      by_root : (c : Bool) → in_root (declared_path name scope) ≡ c → AreGood whole.all (with_external c (declared_path name scope) x d)
       by_root true out = g
-      by_root false out = by_first out (lookup d.external (place_of name scope)) refl
+      by_root false out = by_first out (lookup d.external (declared_path name scope)) refl
 
   good_items : (items : List (FieldItem UnitName)) (scope : AbsolutePath) (d : Declarations) → items_errors whole items scope d ≡ [] → AreGood whole.all d → AreGood whole.all (declare_items items scope d)
   good_items [] scope d e g = g
@@ -215,8 +216,8 @@ module _ (whole : Whole) where
     good (Alias from source at name) scope d e g = declared_good at name scope d (AliasOf source scope) (right_none (use_errors whole from source scope) _ e) g
     good (External here at name type parameters) scope d e g = external_good here at name (record { type = type; parameters = parameters }) scope d e g
     good (Method at name flags body) scope d e g =
-        let d' = with_declared (place_of name scope) (As (MethodObject flags)) d in
-        good_all body (place_of name scope) d' (right_none (declared_errors whole at name scope d) _ e) (declared_good at name scope d (As (MethodObject flags)) (left_none _ (names_all whole body (place_of name scope) d') e) g)
+        let d' = with_declared (declared_path name scope) (As (MethodObject flags)) d in
+        good_all body (declared_path name scope) d' (right_none (declared_errors whole at name scope d) _ e) (declared_good at name scope d (As (MethodObject flags)) (left_none _ (names_all whole body (declared_path name scope) d') e) g)
     good (Mutex at name level) scope d e g = declared_good at name scope d (As (MutexObject level)) e g
     good (Event at name) scope d e g = declared_good at name scope d (As EventObject) e g
     good (If test body) scope d e g = good_all body scope d (right_none (names whole test scope d) _ e) g
@@ -235,8 +236,8 @@ module _ (whole : Whole) where
         good_items items scope d (right_none (names whole value scope d) _ (right_none (use_errors whole to bank scope) _ (right_none (use_errors whole from region scope) _ e))) g
     good (CreateField form args at name) scope d e g = declared_good at name scope d as_buffer_field (right_none (names_all whole args scope d) _ e) g
     good (Container' kind at name body) scope d e g =
-        let d' = with_declared (place_of name scope) (As (ContainerObject kind)) d in
-        good_all body (place_of name scope) d' (right_none (declared_errors whole at name scope d) _ e) (declared_good at name scope d (As (ContainerObject kind)) (left_none _ (names_all whole body (place_of name scope) d') e) g)
+        let d' = with_declared (declared_path name scope) (As (ContainerObject kind)) d in
+        good_all body (declared_path name scope) d' (right_none (declared_errors whole at name scope d) _ e) (declared_good at name scope d (As (ContainerObject kind)) (left_none _ (names_all whole body (declared_path name scope) d') e) g)
     good (Scope here at name body) scope d e g = good_all body (scope_path d name scope) d (right_none (use_errors whole at name scope ++ scope_errors whole here at name scope d) _ e) g
     good _ scope d e g = g
 

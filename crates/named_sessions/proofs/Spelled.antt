@@ -30,9 +30,10 @@ use Rattle.acpi_state.specs.Forms.{buffer_of, package_of, slot_here, if_data, sp
 use Rattle.acpi_state.proofs.Readings.{Any, EndsExpression, same_stop}
 use Rattle.asl_tree.specs.declared.path.Path.{Path}
 use Rattle.asl_tree.specs.Literals.{literal_number}
-use Rattle.asl_tree.specs.Names.{Known, is_known, place_of, denoted, element_path}
+use Rattle.asl_tree.specs.Names.{Known, is_known, declared_path, denoted, element_path}
 use Rattle.asl_meaning.specs.Declarations.{ExternalType}
-use Rattle.asl_tree.specs.Tree.{Tree, Integer, Constant, String, InSlot, Debug, Omitted, Raw, Use, Call, Apply, Buffer, Package, VarPackage, CondRefOf, Return, Name, Alias, External, Method, Mutex, Event, Container', Scope, Fill, Misshapen, Operated, Assigned, AssignedBy, Trees, no_trees, tree, OperationRegion, Field, IndexField, BankField, CreateField, UnitName, If, ElseIf, Else, While, Break, Continue, Item, Switch, Case, Default, For, Print}
+use Rattle.asl_tree.specs.Tree.{Tree, Integer, Constant, String, InSlot, Debug, Omitted, Raw, Use, Call, Apply, Buffer, Package, VarPackage, CondRefOf, Return, Name, Alias, External, Method, Mutex, Event, Container', Scope, Fill, Misshapen}
+use Rattle.asl_tree.specs.Tree.{Operated, Assigned, AssignedBy, Trees, no_trees, tree, OperationRegion, Field, IndexField, BankField, CreateField, UnitName, If, ElseIf, Else, While, Break, Continue, Item, Switch, Case, Default, For, Print}
 use Rattle.asl_meaning.specs.Meaning as S
 use Rattle.asl_meaning.specs.Meaning.{SourceRun, SpotForm, OfResult, OfInside, NoSpot, spot_form}
 use Rattle.asl_meaning.specs.SourceSession.{source_session}
@@ -240,18 +241,18 @@ module _ (shorten : Bool) (width : Width) (says : AbsolutePath → ExternalType 
         agree_then G Any (λ f. f) _ (alike_value shorten width says known (is_expression value) _ _ h.0 (alike value scope false h.1)) (λ v any. agree_done G Any (λ f. f) (O.Return v) tt)
     alike (Name at name value) scope due h =
         agree_then G Any (λ f. f) _ (alike_value shorten width says known (is_expression value) _ _ h.1 (alike value scope false h.2))
-        (λ v any. agree_then G Any (λ f. f) _ (agree_create G (place_of name scope) DataObject tt)
-        (λ u any. agree_then G Any (λ f. f) (λ u. done (Normal false)) (agree_act G (write_named (place_of name scope) v)) (λ u any. agree_done G Any (λ f. f) (Normal false) tt)))
+        (λ v any. agree_then G Any (λ f. f) _ (agree_create G (declared_path name scope) DataObject tt)
+        (λ u any. agree_then G Any (λ f. f) (λ u. done (Normal false)) (agree_act G (write_named (declared_path name scope) v)) (λ u any. agree_done G Any (λ f. f) (Normal false) tt)))
     alike (Alias from source at name) scope due h =
-        agree_then G Any (λ f. f) _ (alike_found shorten width says known source scope) (λ e any. alike_created (place_of name scope) (AliasObject e.0))
+        agree_then G Any (λ f. f) _ (alike_found shorten width says known source scope) (λ e any. alike_created (declared_path name scope) (AliasObject e.0))
     alike (External here at name type parameters) scope due h = agree_done G Any (λ f. f) (Normal false) tt
     alike (Method at name flags body) scope due h =
-        agree_then G Any (λ f. f) _ (agree_create G (place_of name scope) (MethodObject flags) tt)
-        (λ u any. agree_then G Any (λ f. f) (λ u. done (Normal false)) (agree_keep G (place_of name scope) body h.2) (λ u any. agree_done G Any (λ f. f) (Normal false) tt))
-    alike (Mutex at name level) scope due h = alike_created (place_of name scope) (MutexObject level)
-    alike (Event at name) scope due h = alike_created (place_of name scope) EventObject
+        agree_then G Any (λ f. f) _ (agree_create G (declared_path name scope) (MethodObject flags) tt)
+        (λ u any. agree_then G Any (λ f. f) (λ u. done (Normal false)) (agree_keep G (declared_path name scope) body h.2) (λ u any. agree_done G Any (λ f. f) (Normal false) tt))
+    alike (Mutex at name level) scope due h = alike_created (declared_path name scope) (MutexObject level)
+    alike (Event at name) scope due h = alike_created (declared_path name scope) EventObject
     alike (Container' kind at name body) scope due h =
-        agree_then G Any (λ f. f) _ (agree_create G (place_of name scope) (ContainerObject kind) tt) (λ u any. alike_all body (place_of name scope) false h.2)
+        agree_then G Any (λ f. f) _ (agree_create G (declared_path name scope) (ContainerObject kind) tt) (λ u any. alike_all body (declared_path name scope) false h.2)
     alike (Scope here at name body) scope due h =
         agree_then G Any (λ f. f) _ (alike_find shorten width says known false name scope)
         (λ path is. subst (λ q. Alike shorten width says known Any (λ f. f) (S.run_all width known turns call body path false) (S.run_all width known turns call' (spelled_all shorten has says body q) path false)) is (alike_all body path false h.1))
@@ -266,7 +267,7 @@ module _ (shorten : Bool) (width : Width) (says : AbsolutePath → ExternalType 
     alike Break scope due h = agree_done G Any (λ f. f) O.Break tt
     alike Continue scope due h = agree_done G Any (λ f. f) O.Continue tt
     alike (OperationRegion at name space args) scope due h =
-        agree_then G Any (λ f. f) _ (alike_operands region_letters args scope h.2) (λ os any. agree_region G width (place_of name scope) space os (λ offset size. tt))
+        agree_then G Any (λ f. f) _ (alike_operands region_letters args scope h.2) (λ os any. agree_region G width (declared_path name scope) space os (λ offset size. tt))
     alike (Field here from region flags items) scope due h =
         agree_then G Any (λ f. f) _ (alike_region_at shorten width says known region scope) (λ r any. alike_units shorten width says known (InRegion r) scope (first_unit flags) items)
     alike (IndexField here from index to register flags items) scope due h =
@@ -278,7 +279,7 @@ module _ (shorten : Bool) (width : Width) (says : AbsolutePath → ExternalType 
         (λ b any. agree_then G Any (λ f. f) _ (alike_size shorten width says known _ _ (alike_value shorten width says known (is_expression value) _ _ h.2 (alike value scope false h.3)))
         (λ k any. alike_units shorten width says known (InBank r b k) scope (first_unit flags) items)))
     alike (CreateField form args at name) scope due h =
-        agree_then G Any (λ f. f) _ (alike_operands (field_letters form) args scope h.0) (λ os any. agree_buffer_field G width form (place_of name scope) os (λ field. tt))
+        agree_then G Any (λ f. f) _ (alike_operands (field_letters form) args scope h.0) (λ os any. agree_buffer_field G width form (declared_path name scope) os (λ field. tt))
     alike (Item item) scope due h = absurd h
     alike (Fill bytes) scope due h = absurd h
     alike (Operated op args) scope due h = absurd h.0

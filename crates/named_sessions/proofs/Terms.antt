@@ -8,7 +8,8 @@ use Rattle.acpi_values.specs.Operators.{Letter, Valued, Kept, Placed, Used, Row,
 use Rattle.acpi_values.specs.Operators as L
 use Rattle.acpi_state.specs.FieldActs.{region_letters, field_letters}
 use Rattle.asl_meaning.specs.Meaning.{OfInside, spot_form}
-use Rattle.asl_tree.specs.Tree.{Tree, Integer, Constant, String, InSlot, Debug, Omitted, Raw, Use, Call, Apply, Buffer, Package, VarPackage, CondRefOf, Return, Name, Alias, External, Method, Mutex, Event, Container', Scope, Trees, no_trees, tree, count, OperationRegion, Field, IndexField, BankField, CreateField, If, ElseIf, Else, While, Break, Continue, Operated, Assigned, AssignedBy, UnitName, Switch, Case, Default, For, Print}
+use Rattle.asl_tree.specs.Tree.{Tree, Integer, Constant, String, InSlot, Debug, Omitted, Raw, Use, Call, Apply, Buffer, Package, VarPackage, CondRefOf, Return, Name, Alias, External, Method, Mutex, Event, Container', Scope, Trees}
+use Rattle.asl_tree.specs.Tree.{no_trees, tree, count, OperationRegion, Field, IndexField, BankField, CreateField, If, ElseIf, Else, While, Break, Continue, Operated, Assigned, AssignedBy, UnitName, Switch, Case, Default, For, Print}
 use Rattle.asl_tree.specs.FieldItems.{FieldItem}
 use Rattle.aml_sessions.specs.Ready.{is_expression, is_constant, SpotReady}
 use Rattle.acpi_names.specs.Terms.{has_no_targets, is_value, are_values, is_term, are_terms}

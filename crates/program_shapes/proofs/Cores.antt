@@ -15,7 +15,7 @@ use Rattle.asl_lower.proofs.Declared.{same_declarations, same_first_call}
 use Rattle.named_sessions.specs.Core.{core_of}
 use Rattle.named_sessions.specs.Shaped.{AreFormed, AreNamed}
 use Rattle.named_sessions.proofs.Terms.{formed_terms}
-use Rattle.asl_formats.specs.Forms.{formed_all}
+use Rattle.asl_prints.specs.Forms.{formed_all}
 use Rattle.asl_formats.proofs.Declared as forms
 use Rattle.form_shapes.specs.Near.{AreNear}
 use Rattle.form_shapes.proofs.Formed.{forms_formed}

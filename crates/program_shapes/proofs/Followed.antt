@@ -39,7 +39,8 @@ use Rattle.asl_shape.specs.declared.around.Around.{Around}
 use Rattle.asl_shape.specs.Plans.{Plan, a_form, a_name, a_call, omitted, Plans, no_plans, plan}
 use Rattle.asl_shape.specs.Symbols.{symbol_of}
 use Rattle.asl_shape.specs.Shapes as shapes
-use Rattle.asl_shape.specs.Shapes.{Shaped, fine, refused, nowhere, after, checked, place_of, is_given, is_empty, is_separator, inside_of, has_arguments, skipped, run_after, default_after, is_default_op, is_default_plan, settled, arranged, form_shape, known_plan, path_shape, call_shape, read_shape, item_shape, element_shape, macro_shape, template_shape, descriptor_shape, bare, call_args, arguments, arguments_in, contents, terms, within}
+use Rattle.asl_shape.specs.Shapes.{Shaped, fine, refused, nowhere, after, checked, place_of, is_given, is_empty, is_separator, inside_of, has_arguments, skipped, run_after, default_after, is_default_op, is_default_plan, settled, arranged}
+use Rattle.asl_shape.specs.Shapes.{form_shape, known_plan, path_shape, call_shape, read_shape, item_shape, element_shape, macro_shape, template_shape, descriptor_shape, bare, call_args, arguments, arguments_in, contents, terms, within}
 use Rattle.asl_numbers.specs.Numbers.{numbered, numbered_all}
 use Rattle.program_shapes.proofs.Fits.{Formed, FormedTerms}
 use Rattle.program_shapes.proofs.Plans.{PlanAs, PlansAs, none_as, more_as, form_as, omitted_as}

@@ -48,7 +48,8 @@ HaveForms (q ∷ qs) (plan place p ps) = HasForm q.omittable q.slot p × HaveFor
 HaveForms _ _ = ⊥
 
 -- nothing but a string is read where a string is asked for
-no_string : (f : StringForm) (at : Place) (word : List ℕ) (m : Meaning) (called : Bool) (calls : Shaped Plans) (element : FieldWord → Shaped Plan) (expanded : TextMacro → Shaped Plan) (template : Shaped Plan) (described : Descriptor → Shaped Plan) (form : Op → Shaped Plan) → (read_shape (slot.String f) at word (reading_of (slot.String f) m called) calls element expanded template described form).faults ≡ [] → ⊥
+no_string : (f : StringForm) (at : Place) (word : List ℕ) (m : Meaning) (called : Bool) (calls : Shaped Plans) (element : FieldWord → Shaped Plan) (expanded : TextMacro → Shaped Plan) (template : Shaped Plan) (described : Descriptor → Shaped Plan) (form : Op → Shaped Plan)
+    → (read_shape (slot.String f) at word (reading_of (slot.String f) m called) calls element expanded template described form).faults ≡ [] → ⊥
 no_string f at word (is.Operator op) called calls element expanded template described form e = absurd cc
 no_string f at word (is.Known (known.Word kind n)) called calls element expanded template described form e = absurd cc
 no_string f at word (is.Known known.Debug) called calls element expanded template described form e = absurd cc

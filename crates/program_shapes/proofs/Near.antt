@@ -8,11 +8,11 @@ use Rattle.asl_tree.specs.declared.term.Control.TheVariants as Control
 use Rattle.asl_tree.specs.declared.path.Path.{Path}
 use Rattle.asl_tree.specs.Tree.{At, Use, Trees, no_trees, tree}
 use Rattle.asl_meaning.specs.Continues.{has_continue, have_continue}
-use Rattle.asl_formats.specs.Forms.{has_far_continue, have_far_continue}
-use Rattle.asl_formats.specs.Nodes.{is_continue, none_in}
-use Rattle.asl_formats.specs.Stands.{are, is_named_with, braced, braces_in, leaves, leaves_far}
-use Rattle.asl_formats.proofs.Continuing.{left_form}
-use Rattle.asl_formats.proofs.FarContinuing.{far_form}
+use Rattle.asl_prints.specs.Forms.{has_far_continue, have_far_continue}
+use Rattle.asl_prints.specs.Nodes.{is_continue, none_in}
+use Rattle.asl_prints.specs.Fits.{are, is_named_with, braced, braces_in, leaves, leaves_far}
+use Rattle.asl_prints.proofs.Continuing.{left_form}
+use Rattle.asl_prints.proofs.FarContinuing.{far_form}
 use Rattle.asl_shape.specs.Plans.{Plan, a_form, Plans, no_plans, plan}
 use Rattle.asl_numbers.specs.Numbers.{inside, nodes, numbered, numbered_all}
 use Rattle.statement_checks.specs.declared.check.Around.{Around}

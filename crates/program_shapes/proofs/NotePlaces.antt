@@ -5,7 +5,7 @@ use Rattle.std.specs.List.{All}
 use Rattle.acpi_values.specs.Paths.{AbsolutePath}
 use Rattle.iasl_messages.specs.declared.place.Place.{Place}
 use Rattle.iasl_messages.specs.declared.message.Message.{Message}
-use Rattle.asl_tree.specs.Names.{place_of}
+use Rattle.asl_tree.specs.Names.{declared_path}
 use Rattle.asl_tree.specs.Tree.{Trees}
 use Rattle.asl_meaning.specs.Declarations.{nothing_declared}
 use Rattle.asl_parser.specs.Written.{Writtens}
@@ -13,9 +13,9 @@ use Rattle.asl_parser.specs.Within as source
 use Rattle.asl_shape.specs.Places.{AreTold}
 use Rattle.asl_shape.specs.Forms.{terms_of}
 use Rattle.asl_numbers.specs.Numbers.{numbered_all}
-use Rattle.descriptor_names.specs.Declaring.{declaring}
-use Rattle.descriptor_names.specs.Resolved.{checked_terms, names_of, mentions_of}
-use Rattle.descriptor_names.specs.Told.{owners_of}
+use Rattle.descriptor_fields.specs.Declaring.{declaring}
+use Rattle.descriptor_checks.specs.Resolved.{checked_terms, names_of, mentions_of}
+use Rattle.descriptor_checks.specs.Told.{owners_of}
 use Rattle.acpi_names.specs.Mentions.{Mention, Declares, block_mentions}
 use Rattle.named_sessions.specs.Places.{AreWithin}
 use Rattle.descriptor_shapes.proofs.MentionPlaces.{IsMentionedIn, AreMentionedIn, block_in}
@@ -37,7 +37,7 @@ module _ (files : ℕ) where
   module _ (is_method is_used : AbsolutePath → Bool) where
     note_told : (m : Mention) → IsMentionedIn files m → AreTold files (mention_notes is_method is_used m)
     note_told (Declares at name as' scope) h =
-        let path : AbsolutePath = place_of name scope in
+        let path : AbsolutePath = declared_path name scope in
         both_told (told_if (is_other (reserved_arguments path) (method_arguments as')) 3001 at.place path) (told_if (is_method scope && not (is_used path)) 3003 at.place path)
         (if_told (is_other (reserved_arguments path) (method_arguments as')) 3001 at.place path h) (if_told (is_method scope && not (is_used path)) 3003 at.place path h)
     note_told m h = tt

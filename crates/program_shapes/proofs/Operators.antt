@@ -17,7 +17,8 @@ use Rattle.asl_words.specs.Operators.{asked, optional, expression, place, target
 use Rattle.program_shapes.proofs.Fits.{TreesFit, IsDeclared, Formed, FormedElements, FormedTerms, FormedCases, IsCase, IsDefault}
 use Rattle.program_shapes.proofs.Plains.{plain_made, symbol_made}
 use Rattle.program_shapes.proofs.Words.{IsSpelled}
-use Rattle.program_shapes.proofs.Forms.{one_of, two_of, three_of, four_of, none_of, condition_made, return_made, assign_made, assign_by_made, name_made, alias_made, event_made, mutex_made, bits_made, bit_made, byte_made, word_made, dword_made, qword_made, if_made, else_if_made, while_made, for_made, PrintedFit, PrintedIntoFit, printf_made, fprintf_made, switch_made, case_made, device_made, zone_made, scope_made, method_made, power_made, processor_made, buffer_made, package_made, region_made, field_made, index_made, bank_made, ListFit}
+use Rattle.program_shapes.proofs.Forms.{one_of, two_of, three_of, four_of, none_of, condition_made, return_made, assign_made, assign_by_made, name_made, alias_made, event_made, mutex_made, bits_made, bit_made, byte_made, word_made, dword_made, qword_made, if_made, else_if_made, while_made}
+use Rattle.program_shapes.proofs.Forms.{for_made, PrintedFit, PrintedIntoFit, printf_made, fprintf_made, switch_made, case_made, device_made, zone_made, scope_made, method_made, power_made, processor_made, buffer_made, package_made, region_made, field_made, index_made, bank_made, ListFit}
 
 -- the name and type of an External, and perhaps how many parameters it states
 abbrev pub ExternalFit : Trees → Type 0

@@ -48,7 +48,9 @@ use Rattle.asl_words.specs.declared.meaning.Meaning.{Meaning}
 use Rattle.asl_words.specs.Operators.{parameters_of, parameters_as, body_as, role_of, element_parameters, macro_parameters}
 use Rattle.asl_words.specs.Resources.{descriptor_parameters, descriptor_body}
 use Rattle.asl_shape.specs.Symbols.{symbol_of}
-use Rattle.asl_shape.specs.Shapes.{Shaped, fine, refused, unformed, one_word, for_settled, nowhere, valued, evaluated, after, checked, is_member, is_given, count, has_arguments, are_all_types, number_shape, string_shape, text_shape, path_shape, call_shape, known_plan, listed_shape, read_shape, item_shape, form_shape, method_flags, one_plan, zero_plan, is_stated, stated_parameters, few_elements, settled, within, place_of, left_out, is_separator, is_listed, byte_slot, list_shape, skipped, run_after, bare, operands, call_args, arguments, arguments_in, contents, members, terms, inside_of, is_element, field_flags, field_settled, element_shape, macro_shape, template_shape, descriptor_shape, macro_text, eisa_shape, uuid_shape, buffer_plan, meaning_in, is_field_list, begin, field_slot, named_unit, unit_behind, whole_alone, of_bits, field_part, due_behind, elements, is_case_member, case_member, member_count, is_case_package, case_value, is_default_plan, default_last, arranged, cases, default_after, accessed_as, connected_to, element_plan, element_place, first_place, inner_place, begun}
+use Rattle.asl_shape.specs.Shapes.{Shaped, fine, refused, unformed, one_word, for_settled, nowhere, valued, evaluated, after, checked, is_member, is_given, count, has_arguments, are_all_types, number_shape, string_shape, text_shape, path_shape, call_shape, known_plan, listed_shape, read_shape, item_shape, form_shape, method_flags, one_plan, zero_plan, is_stated, stated_parameters}
+use Rattle.asl_shape.specs.Shapes.{few_elements, settled, within, place_of, left_out, is_separator, is_listed, byte_slot, list_shape, skipped, run_after, bare, operands, call_args, arguments, arguments_in, contents, members, terms, inside_of, is_element, field_flags, field_settled, element_shape, macro_shape, template_shape, descriptor_shape, macro_text, eisa_shape, uuid_shape, buffer_plan}
+use Rattle.asl_shape.specs.Shapes.{meaning_in, is_field_list, begin, field_slot, named_unit, unit_behind, whole_alone, of_bits, field_part, due_behind, elements, is_case_member, case_member, member_count, is_case_package, case_value, is_default_plan, default_last, arranged, cases, default_after, accessed_as, connected_to, element_plan, element_place, first_place, inner_place, begun}
 use Rattle.asl_words.specs.Meanings.{item_fault, meaning_of, reading_of, takes_expression, takes_role, slot_as, unfit, is_whole, is_connection}
 use Rattle.asl_words.specs.Texts.{is_all_text, has_form}
 use Rattle.resource_macros.specs.Identifiers.{eisaid_of, uuid_of, utf16_of}
@@ -165,7 +167,8 @@ module _ (files : ℕ) where
   element_in FieldWord.Connection ps h = connected_in (plan_at ps 0) (head_in ps h)
   element_in FieldWord.AttribBytes ps h = tt
 
-  read_in : (s : Slot) (place : Place) (text : List ℕ) (reading : Reading) (args : Shaped Plans) (element : FieldWord → Shaped Plan) (expanded : TextMacro → Shaped Plan) (template : Shaped Plan) (described : Descriptor → Shaped Plan) (form : Op → Shaped Plan) → PlansWithin files args.made → ((x : FieldWord) → PlanWithin files (element x).made) → ((m : TextMacro) → PlanWithin files (expanded m).made)
+  read_in : (s : Slot) (place : Place) (text : List ℕ) (reading : Reading) (args : Shaped Plans) (element : FieldWord → Shaped Plan) (expanded : TextMacro → Shaped Plan) (template : Shaped Plan) (described : Descriptor → Shaped Plan) (form : Op → Shaped Plan) → PlansWithin files args.made
+      → ((x : FieldWord) → PlanWithin files (element x).made) → ((m : TextMacro) → PlanWithin files (expanded m).made)
       → PlanWithin files template.made → ((d : Descriptor) → PlanWithin files (described d).made) → ((o : Op) → PlanWithin files (form o).made) → PlanWithin files (read_shape s place text reading args element expanded template described form).made
   read_in s place text read.Wrong args element expanded template described form h k l v w go = tt
   read_in s place text read.Path args element expanded template described form h k l v w go = path_in place (path_of text)

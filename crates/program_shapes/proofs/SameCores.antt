@@ -17,7 +17,7 @@ use Rattle.asl_lower.specs.Nodes.{named_all}
 use Rattle.asl_lower.proofs.Named.{same_named}
 use Rattle.asl_lower.proofs.Declared as lower
 use Rattle.asl_fold.proofs.Asked.{where_shaped, where_sessions, where_known}
-use Rattle.asl_formats.specs.Forms.{formed_all}
+use Rattle.asl_prints.specs.Forms.{formed_all}
 use Rattle.asl_formats.proofs.Formed.{same_formed}
 use Rattle.form_shapes.specs.Near.{AreNear}
 use Rattle.form_shapes.proofs.Formed.{forms_formed}

@@ -24,8 +24,8 @@ use Rattle.asl_words.specs.declared.operator.Parameter.{Parameter}
 use Rattle.asl_words.specs.declared.operator.Slot.{Slot}
 use Rattle.asl_words.specs.declared.operator.Slot.TheVariants as slot
 use Rattle.aml_sessions.specs.Ready.{IsText}
-use Rattle.asl_formats.specs.Texts.{is_text}
-use Rattle.asl_formats.proofs.TextForms.{no_text_form}
+use Rattle.asl_prints.specs.Texts.{is_text}
+use Rattle.asl_prints.proofs.TextForms.{no_text_form}
 use Rattle.asl_words.specs.Operators.{asked, optional, further, expression, target, by_letter, parameters_as, declared, used, external, constant, parameters_of}
 use Rattle.acpi_values.specs.declared.width.Width.{Width}
 use Rattle.asl_shape.specs.Plans.{Plan, an_integer, a_text, omitted, a_form, Plans, no_plans, plan, number_of, plan_at, how_many, constant_of}

@@ -39,7 +39,8 @@ use Rattle.asl_shape.specs.declared.fields.UnitName.{UnitName}
 use Rattle.asl_parser.specs.Written as piece
 use Rattle.asl_parser.specs.Written.{Written, Writtens, WrittenGroup, item, apply, listed, comma, semicolon, empty, none, more, absent, given}
 use Rattle.asl_shape.specs.Plans.{Plan, omitted, a_name, a_fill, a_unit, a_skip, an_access, Plans, no_plans, plan, plan_at, join, number_of, how_many}
-use Rattle.asl_shape.specs.Shapes.{Shaped, fine, refused, nowhere, is_given, is_empty, is_separator, inside_of, has_arguments, takes, none_empty, is_call, left_out, evaluated, checked, place_of, joined, skipped, list_shape, is_listed, byte_slot, run_after, within, form_shape, bare, operands, call_args, arguments, arguments_in, contents, members, terms, read_shape, string_shape, fault_at, element_shape, macro_shape, template_shape, descriptor_shape, meaning_in, is_field_list, begin, field_slot, named_unit, unit_behind, of_bits, field_part, due_behind, elements, arranged, cases, default_after, accessed_as, connected_to, element_plan, element_place, begun}
+use Rattle.asl_shape.specs.Shapes.{Shaped, fine, refused, nowhere, is_given, is_empty, is_separator, inside_of, has_arguments, takes, none_empty, is_call, left_out, evaluated, checked, place_of, joined, skipped, list_shape, is_listed, byte_slot, run_after, within, form_shape, bare, operands, call_args, arguments, arguments_in, contents, members}
+use Rattle.asl_shape.specs.Shapes.{terms, read_shape, string_shape, fault_at, element_shape, macro_shape, template_shape, descriptor_shape, meaning_in, is_field_list, begin, field_slot, named_unit, unit_behind, of_bits, field_part, due_behind, elements, arranged, cases, default_after, accessed_as, connected_to, element_plan, element_place, begun}
 use Rattle.asl_words.specs.Meanings.{meaning_of, may_end, may_be, is_branch_role, reading_of, slot_as, is_word_of, is_whole, is_long_attribute}
 use Rattle.asl_shape.specs.Shapes as shapes
 use Rattle.asl_shape.specs.Symbols.{symbol_of}

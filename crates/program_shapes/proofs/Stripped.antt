@@ -14,7 +14,7 @@ use Rattle.asl_parser.specs.Written.{writtens}
 use Rattle.asl_shape.specs.Forms.{errors_at}
 use Rattle.asl_numbers.specs.Numbers.{numbered_all}
 use Rattle.named_sessions.specs.Shaped.{AreFormed, AreNamed}
-use Rattle.descriptor_names.specs.Resolved.{table_of}
+use Rattle.descriptor_checks.specs.Resolved.{table_of}
 use Rattle.descriptor_shapes.proofs.Stripped.{resolved_names, resolved_kinds, resolved_calls, resolved_index}
 use Rattle.descriptor_shapes.proofs.Terms.{checked_are_terms}
 use Rattle.program_shapes.specs.Kept.{IsKeptSource}

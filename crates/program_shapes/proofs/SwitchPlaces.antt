@@ -12,9 +12,10 @@ use Rattle.asl_shape.specs.Places.{AreTold}
 use Rattle.asl_shape.specs.Plans.{Plan, a_form, Plans, no_plans, plan, plan_at}
 use Rattle.asl_shape.specs.Shapes.{nowhere}
 use Rattle.hidden_locals.specs.Switches.{is_enough}
+use Rattle.switch_loops.specs.Switched.{is_switch}
 use Rattle.switch_checks.specs.Told.{told}
 use Rattle.switch_checks.specs.Values.{CaseValue, value_of, is_package, occurs}
-use Rattle.switch_checks.specs.Repeats.{Found, found_in, found_at, is_switch, is_case, with_value, repeats, value_at, members_at, first_members, case_values, switch_repeats, term_repeats, repeated_values}
+use Rattle.switch_checks.specs.Repeats.{Found, found_in, found_at, is_case, with_value, repeats, value_at, members_at, first_members, case_values, switch_repeats, term_repeats, repeated_values}
 use Rattle.switch_checks.specs.Locals.{is_method, or_else, switch_in, first_switch, own_error, body_of, rest_of, method_errors, all_method_errors, few_locals}
 use Rattle.descriptor_shapes.specs.Places.{PlanWithin, PlansWithin}
 use Rattle.program_shapes.proofs.ListPlaces.{as_all}

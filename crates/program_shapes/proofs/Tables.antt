@@ -16,7 +16,7 @@ use Rattle.asl_meaning.specs.Declarations.{known_of, externals}
 use Rattle.aml_meaning.specs.ByteSession.{IsFaithful}
 use Rattle.aml_sessions.specs.Ready.{AreItems}
 use Rattle.asl_lower.specs.Nodes.{named_all}
-use Rattle.asl_formats.specs.Forms.{formed_all}
+use Rattle.asl_prints.specs.Forms.{formed_all}
 use Rattle.form_shapes.specs.Near.{AreNear}
 use Rattle.form_shapes.proofs.Formed.{forms_formed}
 use Rattle.form_shapes.proofs.Names.{no_name_errors as no_form_names, no_type_errors as no_form_types}
@@ -44,7 +44,7 @@ use Rattle.program_shapes.proofs.Laid.{terms_laid}
 use Rattle.program_shapes.proofs.Near.{plans_near}
 use Rattle.program_shapes.proofs.Stripped.{right_names, right_kinds}
 use Rattle.descriptor_shapes.proofs.Resolved.{resolved_formed}
-use Rattle.program_shapes.specs.Sources.{source_in, plans_in, terms_in, statements_in, layouts_in, fields_in, width_in, lowered_in, core_in, table_in, IsRight, IsTableOf}
+use Rattle.program_shapes.specs.Sources.{source_in, plans_in, terms_in, statements_in, layouts_in, fields_in, width_in, lowered_in, core_in, table_in, IsRight, IsTableOfSource}
 use Rattle.program_shapes.proofs.Folded.{does_unfolded}
 use Rattle.program_shapes.proofs.Wrapped.{does_unwrapped}
 use Rattle.program_shapes.proofs.Blocks.{terms_as, room_in}
@@ -82,7 +82,7 @@ lowered_faithful width program bytes terms faithful =
       whole = both.whole;
     }
 
-pub does_as : (wrap fold short shorten : Bool) (items : List Raw) → IsRight items → IsKeptSource (writtens items) → length (table_in wrap fold short shorten items) ≤ 16777216 → IsTableOf items (table_in wrap fold short shorten items)
+pub does_as : (wrap fold short shorten : Bool) (items : List Raw) → IsRight items → IsKeptSource (writtens items) → length (table_in wrap fold short shorten items) ≤ 16777216 → IsTableOfSource items (table_in wrap fold short shorten items)
 unfolding errors_at
 does_as wrap fold short shorten items right kept within =
     let fields = fields_in items in

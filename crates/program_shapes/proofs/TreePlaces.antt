@@ -5,7 +5,7 @@ use Rattle.asl_parser.specs.Within as source
 use Rattle.asl_shape.specs.Forms.{terms_of}
 use Rattle.asl_numbers.specs.Numbers.{numbered_all}
 use Rattle.named_sessions.specs.Places.{AreWithin}
-use Rattle.descriptor_names.specs.Resolved.{checked_terms, resolved_terms}
+use Rattle.descriptor_checks.specs.Resolved.{checked_terms, resolved_terms}
 use Rattle.descriptor_shapes.specs.Places.{PlansWithin}
 use Rattle.descriptor_shapes.proofs.Places.{checked_within, resolved_within}
 use Rattle.descriptor_shapes.proofs.TreePlaces.{numbered_within}

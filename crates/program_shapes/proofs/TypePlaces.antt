@@ -10,7 +10,7 @@ use Rattle.asl_parser.specs.Within.{IsIn}
 use Rattle.asl_shape.specs.Plans.{Plan, a_call, a_form, Plans, no_plans, plan, plan_at, constant_of}
 use Rattle.asl_shape.specs.Places.{AreTold}
 use Rattle.asl_numbers.specs.Numbers.{inside, nodes}
-use Rattle.name_entries.specs.declared.kind.Kind.{Kind as Named}
+use Rattle.name_entries.specs.declared.kind.ObjectType.{ObjectType as Named}
 use Rattle.type_checks.specs.Kinds.{is_place, wanted_of, kinds_of}
 use Rattle.type_checks.specs.Names.{named}
 use Rattle.type_checks.specs.Sizes.{is_below, list_length, told, size_errors, term_errors, long_lists}

@@ -11,17 +11,17 @@ use Rattle.named_sessions.specs.Core.{core_of}
 use Rattle.asl_lower.specs.Nodes.{named_all}
 use Rattle.asl_fold.specs.Folds.{folded_where}
 use Rattle.wrapped_externals.specs.Wraps.{wrapped_where}
-use Rattle.asl_formats.specs.Forms.{formed_all}
+use Rattle.asl_prints.specs.Forms.{formed_all}
 use Rattle.hidden_locals.specs.Switches.{without_switches}
 use Rattle.asl_parser.specs.declared.raw.Raw.{Raw}
 use Rattle.asl_parser.specs.Written.{writtens}
 use Rattle.asl_shape.specs.Plans.{Plans, plan_at, text_of, number_of}
 use Rattle.asl_shape.specs.Forms.{errors_at, alone, args_of, terms_of}
 use Rattle.asl_numbers.specs.Numbers.{numbered_all}
-use Rattle.descriptor_names.specs.Declaring.{declaring}
-use Rattle.descriptor_names.specs.Resolved.{checked_terms, resolved_terms, names_of, mentions_of}
+use Rattle.descriptor_fields.specs.Declaring.{declaring}
+use Rattle.descriptor_checks.specs.Resolved.{checked_terms, resolved_terms, names_of, mentions_of}
 use Rattle.name_notes.specs.Notes.{mentioned_notes}
-use Rattle.descriptor_names.specs.Told.{names_told, kinds_told, owners_of}
+use Rattle.descriptor_checks.specs.Told.{names_told, kinds_told, owners_of}
 use Rattle.iasl_messages.specs.declared.message.Message.{Message}
 use Rattle.statement_checks.specs.Statements.{errors_of_statements}
 use Rattle.field_checks.specs.Lists.{all_errors}
@@ -155,6 +155,6 @@ abbrev pub DoesAs : Width → Trees → List ℕ → Type 0
 DoesAs width program bytes = IsFaithful width (known_of program) (externals program) program bytes
 
 -- bytes that begin with the header that the source states, and that do what it says
-pub record IsTableOf (items : List Raw) (bytes : List ℕ) : Type 0 where
+pub record IsTableOfSource (items : List Raw) (bytes : List ℕ) : Type 0 where
   pub header : IsHeader bytes (fields_in items)
   pub faithful : DoesAs (width_in items) (terms_in items) bytes

@@ -17,11 +17,11 @@ use Rattle.asl_tree.specs.Tree.{At, Tree, Integer, String, Omitted, Use, Package
 use Rattle.acpi_names.specs.Parts.{part_of}
 use Rattle.asl_shape.specs.Plans.{Plan, a_form, Plans}
 use Rattle.field_checks.specs.Lists.{term_errors}
-use Rattle.region_checks.specs.declared.measure.Measure.{Measure}
+use Rattle.region_checks.specs.declared.measure.Extent.{Extent}
 use Rattle.region_checks.specs.Measures.{measures, part_measures}
 
 module _ (width : Width) where
-  by_items : (o : Option (List (FieldItem UnitName))) (p : Plan) (made : List (FieldItem UnitName) → Tree) (told : List Measure) → ((items : List (FieldItem UnitName)) → measures width (made items) p ≡ told) → measures width (choose o Misshapen made) p ≡ choose o [] (λ items. told)
+  by_items : (o : Option (List (FieldItem UnitName))) (p : Plan) (made : List (FieldItem UnitName) → Tree) (told : List Extent) → ((items : List (FieldItem UnitName)) → measures width (made items) p ≡ told) → measures width (choose o Misshapen made) p ≡ choose o [] (λ items. told)
   by_items None p made told h = refl
   by_items (Some items) p made told h = h items
 

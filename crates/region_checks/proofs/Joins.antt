@@ -9,22 +9,22 @@ use Rattle.acpi_state.specs.FieldActs.{region_letters, field_letters}
 use Rattle.acpi_values.specs.declared.width.Width.{Width}
 use Rattle.asl_tree.specs.declared.path.Path.{Path}
 use Rattle.asl_tree.specs.FieldItems.{FieldItem, UnitItem, SkipItem, OffsetItem, AccessItem, ConnectionItem, ToName, ToBytes}
-use Rattle.asl_tree.specs.Names.{place_of}
+use Rattle.asl_tree.specs.Names.{declared_path}
 use Rattle.asl_tree.specs.Tree.{At, Tree, Use, Call, Apply, Buffer, Package, VarPackage, CondRefOf, Return, Name, Alias, External, Method, Mutex, Event, Container', Scope, Trees, no_trees, tree, OperationRegion, Field, IndexField, BankField, CreateField, UnitName, If, ElseIf, Else, While, For, Print, Operated, Assigned, AssignedBy, Switch, Case, Default}
 use Rattle.asl_meaning.specs.Declarations.{Declarations, scope_path, declare}
 use Rattle.acpi_names.specs.Errors.{Asked, Anything, AnObject, AValue, AMutex, AnEvent, AUnit, ARegion, asked_by}
 use Rattle.acpi_names.specs.Mentions.{Mention, Used', is_spot, is_use, asks, asked_value, asked_use, letter_mention, cond_place, mentions, mentions_all, operand_mentions, target_mentions, element_mentions, item_mentions, term_mentions, block_mentions}
 use Rattle.asl_shape.specs.Plans.{Plan, Plans, plan_at}
-use Rattle.region_checks.specs.declared.measure.Measure.{Measure}
+use Rattle.region_checks.specs.declared.measure.Extent.{Extent}
 use Rattle.region_checks.specs.Sites.{Site, RegionAt, FieldIn, body_of, rest_of, region_size, field_access, field_units, sites, sites_all}
 use Rattle.region_checks.specs.Measures.{measures, measures_all, joined}
 use Rattle.region_checks.proofs.Units.{same_units}
 
 -- whatever comes behind
-abbrev Joins : List Mention → List Measure → List Site → Type 0
-Joins ms ps ss = (more : List Mention) (mores : List Measure) → joined (ms ++ more) (ps ++ mores) ≡ ss ++ joined more mores
+abbrev Joins : List Mention → List Extent → List Site → Type 0
+Joins ms ps ss = (more : List Mention) (mores : List Extent) → joined (ms ++ more) (ps ++ mores) ≡ ss ++ joined more mores
 
-join_both : (a b : List Mention) (p q : List Measure) (s t : List Site) → Joins a p s → Joins b q t → Joins (a ++ b) (p ++ q) (s ++ t)
+join_both : (a b : List Mention) (p q : List Extent) (s t : List Site) → Joins a p s → Joins b q t → Joins (a ++ b) (p ++ q) (s ++ t)
 join_both a b p q s t h k more mores =
     ap (λ ms. joined ms ((p ++ q) ++ mores)) (append_assoc a b more) ∙ ap (joined (a ++ (b ++ more))) (append_assoc p q mores)
     ∙ h (b ++ more) (q ++ mores) ∙ ap (λ x. s ++ x) (k more mores) ∙ sym (append_assoc s t (joined more mores))
@@ -136,10 +136,10 @@ module _ (width : Width) where
     join_term (Name at name value) p scope d = quiet true value scope
     join_term (Alias from source at name) p scope d = λ more mores. refl
     join_term (External here at name type parameters) p scope d = λ more mores. refl
-    join_term (Method at name flags body) p scope d = join_block body (body_of p) (place_of name scope) _
+    join_term (Method at name flags body) p scope d = join_block body (body_of p) (declared_path name scope) _
     join_term (Mutex at name level) p scope d = λ more mores. refl
     join_term (Event at name) p scope d = λ more mores. refl
-    join_term (Container' kind at name body) p scope d = join_block body (body_of p) (place_of name scope) _
+    join_term (Container' kind at name body) p scope d = join_block body (body_of p) (declared_path name scope) _
     join_term (Scope here at name body) p scope d = join_block body (body_of p) (scope_path d name scope) d
     join_term (If test body) p scope d =
         join_both (mentions true test scope) (block_mentions body scope d) [] (measures_all width body (body_of p)) [] (sites_all width body (body_of p) scope d) (quiet true test scope) (join_block body (body_of p) scope d)
@@ -160,7 +160,7 @@ module _ (width : Width) where
         join_both (mentions true value scope) (block_mentions body scope d) [] (measures_all width body (body_of p)) [] (sites_all width body (body_of p) scope d) (quiet true value scope) (join_block body (body_of p) scope d)
     join_term (Default body) p scope d = join_block body (body_of p) scope d
     join_term (OperationRegion at name space args) p scope d =
-        λ more mores. ap (λ ss. RegionAt (place_of name scope) (region_size width p) ∷ ss) (quiet_operands true Anything region_letters args scope refl more mores)
+        λ more mores. ap (λ ss. RegionAt (declared_path name scope) (region_size width p) ∷ ss) (quiet_operands true Anything region_letters args scope refl more mores)
     join_term (Field here from region flags items) p scope d =
         λ more mores. ap (λ u. FieldIn here region scope (field_access flags p) u ∷ joined (item_mentions items scope ++ more) mores) (same_units flags p)
         ∙ ap (λ ss. FieldIn here region scope (field_access flags p) (field_units flags p) ∷ ss) (quiet_items items scope more mores)
@@ -188,8 +188,8 @@ module _ (width : Width) where
     no_site (OperationRegion at name space args) p scope d e = absurd cc
     no_site (Field here from region flags items) p scope d e = absurd cc
     no_site (BankField here from region to bank value flags items) p scope d e = absurd cc
-    no_site (Method at name flags body) p scope d e = no_sites body (body_of p) (place_of name scope) _ e
-    no_site (Container' kind at name body) p scope d e = no_sites body (body_of p) (place_of name scope) _ e
+    no_site (Method at name flags body) p scope d e = no_sites body (body_of p) (declared_path name scope) _ e
+    no_site (Container' kind at name body) p scope d e = no_sites body (body_of p) (declared_path name scope) _ e
     no_site (Scope here at name body) p scope d e = no_sites body (body_of p) (scope_path d name scope) d e
     no_site (If test body) p scope d e = no_sites body (body_of p) scope d e
     no_site (ElseIf test body) p scope d e = no_sites body (body_of p) scope d e

@@ -5,7 +5,7 @@ use Rattle.iasl_messages.specs.declared.message.Message.{Message}
 use Rattle.iasl_messages.specs.declared.place.Place.{Place}
 use Rattle.asl_parser.specs.Within.{IsIn}
 use Rattle.acpi_values.specs.declared.width.Width.{Width}
-use Rattle.asl_tree.specs.Names.{place_of}
+use Rattle.asl_tree.specs.Names.{declared_path}
 use Rattle.asl_tree.specs.Tree.{Tree, Method, Container', Scope, Trees, no_trees, tree, OperationRegion, Field, BankField, If, ElseIf, Else, While, For, Switch, Case, Default}
 use Rattle.asl_meaning.specs.Declarations.{Declarations, scope_path, declare, nothing_declared}
 use Rattle.acpi_names.specs.Errors.{Whole, whole_of, name_end}
@@ -68,8 +68,8 @@ module _ (files : ℕ) where
     site_within width (OperationRegion at name space args) p scope d h k = tt
     site_within width (Field here from region flags items) p scope d h k = (h, field_units_within flags p k, tt)
     site_within width (BankField here from region to bank value flags items) p scope d h k = (h, field_units_within flags p k, tt)
-    site_within width (Method at name flags body) p scope d h k = sites_within width body (body_of p) (place_of name scope) _ h (body_within p k)
-    site_within width (Container' kind at name body) p scope d h k = sites_within width body (body_of p) (place_of name scope) _ h (body_within p k)
+    site_within width (Method at name flags body) p scope d h k = sites_within width body (body_of p) (declared_path name scope) _ h (body_within p k)
+    site_within width (Container' kind at name body) p scope d h k = sites_within width body (body_of p) (declared_path name scope) _ h (body_within p k)
     site_within width (Scope here at name body) p scope d h k = sites_within width body (body_of p) (scope_path d name scope) d h (body_within p k)
     site_within width (If test body) p scope d h k = sites_within width body (body_of p) scope d h (body_within p k)
     site_within width (ElseIf test body) p scope d h k = sites_within width body (body_of p) scope d h (body_within p k)

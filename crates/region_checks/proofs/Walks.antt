@@ -30,7 +30,7 @@ use Rattle.asl_shape.proofs.Plans.{plan_form}
 use Rattle.asl_numbers.specs.Numbers.{inside, nodes}
 use Rattle.field_checks.specs.Lists.{term_errors, all_errors}
 use Rattle.name_kinds.proofs.Places.{next_dropped}
-use Rattle.region_checks.specs.declared.measure.Measure.{Measure}
+use Rattle.region_checks.specs.declared.measure.Extent.{Extent}
 use Rattle.region_checks.specs.declared.site.Site.{Site as CodeSite}
 use Rattle.region_checks.specs.Sites.{Site, RegionAt, FieldIn, sites_all}
 use Rattle.region_checks.specs.Measures.{measures, measures_all, part_measures, is_site, site_with, first_measure, rest_measures, left_measures, joined}
@@ -46,7 +46,7 @@ use Rattle.std.specs.List.{All}
 use Rattle.std.proofs.lemmas.List.Elements.{All-append, All-cons}
 
 module _ (width : Width) where
-  abbrev pub measures_of : List Node → List Measure
+  abbrev pub measures_of : List Node → List Extent
   measures_of ns = measures_all width (trees_of ns) (plans_of ns)
 
   -- the nodes from one on: that one alone, and those behind it
@@ -64,10 +64,10 @@ module _ (width : Width) where
   none_left (n ∷ ns) (suc i) le = none_left ns i (omega (arith, le))
 
   -- some first nodes are measured, and those behind them are not yet
-  abbrev pub Remains : List Node → ℕ → List Measure → List Measure → Type 0
+  abbrev pub Remains : List Node → ℕ → List Extent → List Extent → Type 0
   Remains ns i initial now = now ++ measures_of (drop i ns) ≡ initial ++ measures_of ns
 
-  pub next_measured : (ns alone : List Node) (i : ℕ) (initial now next : List Measure) → i < length ns → alone ≡ take 1 (drop i ns) → Remains ns i initial now → next ≡ now ++ measures_of alone → Remains ns (i + 1) initial next
+  pub next_measured : (ns alone : List Node) (i : ℕ) (initial now next : List Extent) → i < length ns → alone ≡ take 1 (drop i ns) → Remains ns i initial now → next ≡ now ++ measures_of alone → Remains ns (i + 1) initial next
   next_measured ns alone i initial now next lt e before told =
       let more : i + 1 ≡ suc i = omega arith in
       ap (λ k. next ++ measures_of (drop k ns)) more
@@ -76,7 +76,7 @@ module _ (width : Width) where
       ∙ ap (λ ms. now ++ ms) (sym (alone_first ns i lt))
       ∙ before
 
-  pub all_measured : (ns : List Node) (i : ℕ) (initial now : List Measure) → length ns ≤ i → Remains ns i initial now → now ≡ initial ++ measures_of ns
+  pub all_measured : (ns : List Node) (i : ℕ) (initial now : List Extent) → length ns ≤ i → Remains ns i initial now → now ≡ initial ++ measures_of ns
   all_measured ns i initial now le before = sym (right_nil now) ∙ ap (λ ms. now ++ ms) (sym (none_left ns i le)) ∙ before
 
   one_smaller : (ns : List Node) (i : ℕ) → nodes (plans_of (take 1 (drop i ns))) ≤ nodes (plans_of ns)
@@ -144,7 +144,7 @@ module _ (width : Width) where
   unfolding tree_of
   nothing_said at p t not_form = by_layer (D.out-Term t) (sym (D.roll-out-Term t))
     where
-      said : Term → List Measure
+      said : Term → List Extent
       said u = measures width (tree_of at u) p
 
       by_layer : (f : D.Term-F Term Node) → t ≡ D.roll-Term f → measures width (tree_of at t) p ≡ []
@@ -169,20 +169,20 @@ module _ (width : Width) where
       ap measures_of (alone_is alone node d e h) ∙ measures_alone node ∙ right_nil (measures width (tree_of (record { id = node.id; place = node.place }) node.term) (plan_of node.term))
       ∙ nothing_said (record { id = node.id; place = node.place }) (plan_of node.term) node.term not_form
 
-first_at : (ps : List Measure) (n : ℕ) → first_measure (drop n ps) ≡ slice_get ps n
+first_at : (ps : List Extent) (n : ℕ) → first_measure (drop n ps) ≡ slice_get ps n
 first_at [] zero = refl
 first_at [] (suc n) = refl
 first_at (p ∷ ps) zero = refl
 first_at (p ∷ ps) (suc n) = first_at ps n
 
-rest_at : (ps : List Measure) (n : ℕ) → rest_measures (drop n ps) ≡ drop (suc n) ps
+rest_at : (ps : List Extent) (n : ℕ) → rest_measures (drop n ps) ≡ drop (suc n) ps
 rest_at [] zero = refl
 rest_at [] (suc n) = refl
 rest_at (p ∷ ps) zero = refl
 rest_at (p ∷ ps) (suc n) = rest_at ps n
 
 -- a mention with its measure, and those behind it
-join_next : (paths : List AbsolutePath) (mentions : List CodeMention) (ps : List Measure) (i n : ℕ) (m : CodeMention) → i < length mentions → m ≡ get_or mentions i m → joined (drop i (all_shown paths mentions)) (drop n ps) ≡ site_with (shown paths m) (slice_get ps n) ++ joined (drop (i + 1) (all_shown paths mentions)) (left_measures (is_site (shown paths m)) (drop n ps))
+join_next : (paths : List AbsolutePath) (mentions : List CodeMention) (ps : List Extent) (i n : ℕ) (m : CodeMention) → i < length mentions → m ≡ get_or mentions i m → joined (drop i (all_shown paths mentions)) (drop n ps) ≡ site_with (shown paths m) (slice_get ps n) ++ joined (drop (i + 1) (all_shown paths mentions)) (left_measures (is_site (shown paths m)) (drop n ps))
 join_next paths mentions ps i n m lt e =
     let rest = joined (drop (i + 1) (all_shown paths mentions)) (left_measures (is_site (shown paths m)) (drop n ps)) in
     ap (λ ms. joined ms (drop n ps)) (next_dropped paths mentions i m lt e) ∙ ap (λ o. site_with (shown paths m) o ++ rest) (first_at ps n)
@@ -191,7 +191,8 @@ map_append : {A B : Type 0} (f : A → B) (xs ys : List A) → map f (xs ++ ys) 
 map_append f [] ys = refl
 map_append f (x ∷ xs) ys = ap (λ zs. f x ∷ zs) (map_append f xs ys)
 
-pub site_more : (paths : List AbsolutePath) (mentions : List CodeMention) (ps : List Measure) (i n : ℕ) (m : CodeMention) (site : CodeSite) (old new : List CodeSite) (r : List Site) → i < length mentions → m ≡ get_or mentions i m → site_as paths site ∷ [] ≡ site_with (shown paths m) (slice_get ps n) → is_site (shown paths m) ≡ true → new ≡ old ++ site ∷ [] → map (site_as paths) old ++ joined (drop i (all_shown paths mentions)) (drop n ps) ≡ r → map (site_as paths) new ++ joined (drop (i + 1) (all_shown paths mentions)) (drop (n + 1) ps) ≡ r
+pub site_more : (paths : List AbsolutePath) (mentions : List CodeMention) (ps : List Extent) (i n : ℕ) (m : CodeMention) (site : CodeSite) (old new : List CodeSite) (r : List Site) → i < length mentions → m ≡ get_or mentions i m → site_as paths site ∷ [] ≡ site_with (shown paths m) (slice_get ps n) → is_site (shown paths m) ≡ true → new ≡ old ++ site ∷ []
+    → map (site_as paths) old ++ joined (drop i (all_shown paths mentions)) (drop n ps) ≡ r → map (site_as paths) new ++ joined (drop (i + 1) (all_shown paths mentions)) (drop (n + 1) ps) ≡ r
 site_more paths mentions ps i n m site old new r lt e is one push before =
     let more : n + 1 ≡ suc n = omega arith in
     let rest = drop (i + 1) (all_shown paths mentions) in
@@ -203,7 +204,8 @@ site_more paths mentions ps i n m site old new r lt e is one push before =
     ∙ ap (λ xs. map (site_as paths) old ++ xs) (sym (join_next paths mentions ps i n m lt e))
     ∙ before
 
-pub site_less : (paths : List AbsolutePath) (mentions : List CodeMention) (ps : List Measure) (i n : ℕ) (m : CodeMention) (old : List CodeSite) (r : List Site) → i < length mentions → m ≡ get_or mentions i m → [] ≡ site_with (shown paths m) (slice_get ps n) → is_site (shown paths m) ≡ false → map (site_as paths) old ++ joined (drop i (all_shown paths mentions)) (drop n ps) ≡ r → map (site_as paths) old ++ joined (drop (i + 1) (all_shown paths mentions)) (drop n ps) ≡ r
+pub site_less : (paths : List AbsolutePath) (mentions : List CodeMention) (ps : List Extent) (i n : ℕ) (m : CodeMention) (old : List CodeSite) (r : List Site) → i < length mentions → m ≡ get_or mentions i m → [] ≡ site_with (shown paths m) (slice_get ps n) → is_site (shown paths m) ≡ false
+    → map (site_as paths) old ++ joined (drop i (all_shown paths mentions)) (drop n ps) ≡ r → map (site_as paths) old ++ joined (drop (i + 1) (all_shown paths mentions)) (drop n ps) ≡ r
 site_less paths mentions ps i n m old r lt e is none before =
     let rest = drop (i + 1) (all_shown paths mentions) in
     ap (λ b. map (site_as paths) old ++ joined rest (left_measures b (drop n ps))) (sym none)
@@ -211,7 +213,7 @@ site_less paths mentions ps i n m old r lt e is none before =
     ∙ ap (λ xs. map (site_as paths) old ++ xs) (sym (join_next paths mentions ps i n m lt e))
     ∙ before
 
-pub sites_end : (paths : List AbsolutePath) (mentions : List CodeMention) (ps qs : List Measure) (i : ℕ) (found : List CodeSite) (r : List Site) → length mentions ≤ i → map (site_as paths) found ++ joined (drop i (all_shown paths mentions)) qs ≡ r → map (site_as paths) found ≡ r
+pub sites_end : (paths : List AbsolutePath) (mentions : List CodeMention) (ps qs : List Extent) (i : ℕ) (found : List CodeSite) (r : List Site) → length mentions ≤ i → map (site_as paths) found ++ joined (drop i (all_shown paths mentions)) qs ≡ r → map (site_as paths) found ≡ r
 sites_end paths mentions ps qs i found r le h =
     sym (ap (λ ms. map (site_as paths) found ++ joined ms qs) (drop_all i (all_shown paths mentions) (omega (arith, le, length-map mentions (shown paths)))) ∙ right_nil (map (site_as paths) found)) ∙ h
 
@@ -239,7 +241,8 @@ errors_from whole regions f [] i site lt e = absurd (omega (arith, lt))
 errors_from whole regions f (x ∷ sites) zero site lt e = ap (λ y. site_errors whole regions (f y) ++ all_site_errors whole regions (map f sites)) (sym e)
 errors_from whole regions f (x ∷ sites) (suc i) site lt e = errors_from whole regions f sites i site (omega (arith, lt)) e
 
-pub errors_next : (whole : Whole) (regions : List (AbsolutePath × ℕ)) (f : CodeSite → Site) (sites : List CodeSite) (i : ℕ) (site : CodeSite) (old new r : List Message) → i < length sites → site ≡ get_or sites i site → new ≡ old ++ site_errors whole regions (f site) → old ++ all_site_errors whole regions (map f (drop i sites)) ≡ r → new ++ all_site_errors whole regions (map f (drop (i + 1) sites)) ≡ r
+pub errors_next : (whole : Whole) (regions : List (AbsolutePath × ℕ)) (f : CodeSite → Site) (sites : List CodeSite) (i : ℕ) (site : CodeSite) (old new r : List Message) → i < length sites → site ≡ get_or sites i site → new ≡ old ++ site_errors whole regions (f site)
+    → old ++ all_site_errors whole regions (map f (drop i sites)) ≡ r → new ++ all_site_errors whole regions (map f (drop (i + 1) sites)) ≡ r
 errors_next whole regions f sites i site old new r lt e told before =
     let more : i + 1 ≡ suc i = omega arith in
     let rest = all_site_errors whole regions (map f (drop (suc i) sites)) in
@@ -263,14 +266,16 @@ pub no_end : (whole : Whole) (name : Path) (scope : AbsolutePath) → None ≡ d
 no_end whole name scope is = ap (λ o. choose o None (final whole.known)) is
 
 -- a site is found
-pub site_put : (paths : List AbsolutePath) (mentions : List CodeMention) (ps : List Measure) (i n next : ℕ) (m : CodeMention) (o : Option Measure) (site : CodeSite) (old new out : List CodeSite) (r : List Site) → i < length mentions → m ≡ get_or mentions i m → o ≡ slice_get ps n → site_as paths site ∷ [] ≡ site_with (shown paths m) o → is_site (shown paths m) ≡ true → new ≡ old ++ site ∷ [] → out ≡ new → next ≡ n + 1 → map (site_as paths) old ++ joined (drop i (all_shown paths mentions)) (drop n ps) ≡ r → map (site_as paths) out ++ joined (drop (i + 1) (all_shown paths mentions)) (drop next ps) ≡ r
+pub site_put : (paths : List AbsolutePath) (mentions : List CodeMention) (ps : List Extent) (i n next : ℕ) (m : CodeMention) (o : Option Extent) (site : CodeSite) (old new out : List CodeSite) (r : List Site) → i < length mentions → m ≡ get_or mentions i m → o ≡ slice_get ps n → site_as paths site ∷ [] ≡ site_with (shown paths m) o → is_site (shown paths m) ≡ true → new ≡ old ++ site ∷ []
+    → out ≡ new → next ≡ n + 1 → map (site_as paths) old ++ joined (drop i (all_shown paths mentions)) (drop n ps) ≡ r → map (site_as paths) out ++ joined (drop (i + 1) (all_shown paths mentions)) (drop next ps) ≡ r
 site_put paths mentions ps i n next m o site old new out r lt e at is one push same count before =
     let rest = drop (i + 1) (all_shown paths mentions) in
     ap (λ xs. map (site_as paths) xs ++ joined rest (drop next ps)) same ∙ ap (λ k. map (site_as paths) new ++ joined rest (drop k ps)) count
     ∙ site_more paths mentions ps i n m site old new r lt e (is ∙ ap (site_with (shown paths m)) at) one push before
 
 -- none is found
-pub site_skipped : (paths : List AbsolutePath) (mentions : List CodeMention) (ps : List Measure) (i n next : ℕ) (m : CodeMention) (o : Option Measure) (old out : List CodeSite) (r : List Site) → i < length mentions → m ≡ get_or mentions i m → o ≡ slice_get ps n → [] ≡ site_with (shown paths m) o → is_site (shown paths m) ≡ false → out ≡ old → next ≡ n → map (site_as paths) old ++ joined (drop i (all_shown paths mentions)) (drop n ps) ≡ r → map (site_as paths) out ++ joined (drop (i + 1) (all_shown paths mentions)) (drop next ps) ≡ r
+pub site_skipped : (paths : List AbsolutePath) (mentions : List CodeMention) (ps : List Extent) (i n next : ℕ) (m : CodeMention) (o : Option Extent) (old out : List CodeSite) (r : List Site) → i < length mentions → m ≡ get_or mentions i m → o ≡ slice_get ps n → [] ≡ site_with (shown paths m) o → is_site (shown paths m) ≡ false → out ≡ old → next ≡ n
+    → map (site_as paths) old ++ joined (drop i (all_shown paths mentions)) (drop n ps) ≡ r → map (site_as paths) out ++ joined (drop (i + 1) (all_shown paths mentions)) (drop next ps) ≡ r
 site_skipped paths mentions ps i n next m o old out r lt e at is none same count before =
     let rest = drop (i + 1) (all_shown paths mentions) in
     ap (λ xs. map (site_as paths) xs ++ joined rest (drop next ps)) same ∙ ap (λ k. map (site_as paths) old ++ joined rest (drop k ps)) count
@@ -282,18 +287,18 @@ within_more n site old new out same push h k =
 
 module _ (width : Width) where
   -- what is told of a block
-  pub block_faults : (ts : Trees) (ps : Plans) (ms : List Mention) (given : List Measure) (out : List Message) → ms ≡ block_mentions ts [] nothing_declared → given ≡ measures_all width ts ps → out ≡ sited_errors (seen ms) (joined ms given) → out ≡ sited_errors (seen (block_mentions ts [] nothing_declared)) (sites_all width ts ps [] nothing_declared)
+  pub block_faults : (ts : Trees) (ps : Plans) (ms : List Mention) (given : List Extent) (out : List Message) → ms ≡ block_mentions ts [] nothing_declared → given ≡ measures_all width ts ps → out ≡ sited_errors (seen ms) (joined ms given) → out ≡ sited_errors (seen (block_mentions ts [] nothing_declared)) (sites_all width ts ps [] nothing_declared)
   block_faults ts ps ms given out mentioned measured told =
       let bm = block_mentions ts [] nothing_declared in
       told ∙ ap (λ xs. sited_errors (seen xs) (joined xs given)) mentioned ∙ ap (λ qs. sited_errors (seen bm) (joined bm qs)) measured
       ∙ ap (sited_errors (seen bm)) (sites_joined width ts ps [] nothing_declared)
 
   -- without regions and fields nothing is told
-  pub nothing_told : (ts : Trees) (ps : Plans) (whole : Whole) (given : List Measure) (out : List Message) → given ≡ measures_all width ts ps → length given ≡ 0 → out ≡ [] → out ≡ sited_errors whole (sites_all width ts ps [] nothing_declared)
+  pub nothing_told : (ts : Trees) (ps : Plans) (whole : Whole) (given : List Extent) (out : List Message) → given ≡ measures_all width ts ps → length given ≡ 0 → out ≡ [] → out ≡ sited_errors whole (sites_all width ts ps [] nothing_declared)
   nothing_told ts ps whole given out measured none nothing =
       nothing ∙ ap (sited_errors whole) (sym (no_sites width ts ps [] nothing_declared (sym measured ∙ no_measures given none)))
     where
-      no_measures : (xs : List Measure) → length xs ≡ 0 → xs ≡ []
+      no_measures : (xs : List Extent) → length xs ≡ 0 → xs ≡ []
       no_measures [] e = refl
       no_measures (x ∷ xs) e = absurd (omega (arith, e))
 

@@ -7,7 +7,7 @@ use Rattle.iasl_messages.specs.declared.message.Message.{Message}
 use Rattle.acpi_state.specs.Access.{access_bytes}
 use Rattle.acpi_state.specs.Objects.{MethodObject, ContainerObject}
 use Rattle.asl_tree.specs.declared.path.Path.{Path}
-use Rattle.asl_tree.specs.Names.{place_of}
+use Rattle.asl_tree.specs.Names.{declared_path}
 use Rattle.asl_tree.specs.Tree.{At, Tree, Method, Container', Scope, Trees, no_trees, tree, OperationRegion, Field, BankField, If, ElseIf}
 use Rattle.asl_tree.specs.Tree.{Else, While, For, Switch, Case, Default}
 use Rattle.asl_meaning.specs.Declarations.{As, Declarations, with_declared, scope_path, declare}
@@ -55,14 +55,14 @@ field_units flags p = λ space. unit_fault space (first_said (flags % 16)) (body
 module _ (width : Width) where
   abbrev mutual
     pub sites : Tree → Plan → AbsolutePath → Declarations → List Site
-    sites (OperationRegion at name space args) p scope d = RegionAt (place_of name scope) (region_size width p) ∷ []
+    sites (OperationRegion at name space args) p scope d = RegionAt (declared_path name scope) (region_size width p) ∷ []
     sites (Field here from region flags items) p scope d = FieldIn here region scope (field_access flags p) (field_units flags p) ∷ []
     sites (BankField here from region to bank value flags items) p scope d = FieldIn here region scope (field_access flags p)
         (field_units flags p) ∷ []
     sites (Method at name flags body) p scope d =
-        sites_all body (body_of p) (place_of name scope) (with_declared (place_of name scope) (As (MethodObject flags)) d)
+        sites_all body (body_of p) (declared_path name scope) (with_declared (declared_path name scope) (As (MethodObject flags)) d)
     sites (Container' kind at name body) p scope d =
-        sites_all body (body_of p) (place_of name scope) (with_declared (place_of name scope) (As (ContainerObject kind)) d)
+        sites_all body (body_of p) (declared_path name scope) (with_declared (declared_path name scope) (As (ContainerObject kind)) d)
     sites (Scope here at name body) p scope d = sites_all body (body_of p) (scope_path d name scope) d
     sites (If test body) p scope d = sites_all body (body_of p) scope d
     sites (ElseIf test body) p scope d = sites_all body (body_of p) scope d

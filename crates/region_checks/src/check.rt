@@ -25,10 +25,10 @@ ghost use Rattle.name_kinds.specs.Kinds.{space_of};
 ghost use Rattle.region_checks.specs.Shown.{site_as};
 ghost use Rattle.region_checks.specs.Sites.{sites_all};
 
-use crate::measure::{Measure, UnitFaults, all_measures};
+use crate::measure::{Extent, UnitFaults, all_measures};
 use crate::site::{Site, sites, sizes};
+use acpi_names::lookup::scope_in;
 use acpi_names::mention::Mention;
-use acpi_names::place::scope_in;
 use acpi_values::width::Width;
 use asl_tree::path::Path;
 use field_checks::units::{UnitFault, tell};
@@ -179,7 +179,7 @@ fn all_site_errors(
     alloc: Global,
     facts: &Facts,
     mentions: &[Mention<'_>],
-    measures: &[Measure],
+    measures: &[Extent],
 ) -> Result<Messages, AllocError>
     ghost whole: { Whole }
     requires told { Knows facts.now whole }
@@ -225,8 +225,8 @@ pub fn region_faults(alloc: Global, width: Width, known: &Known<'_>) -> Result<M
     requires terms { are_terms (trees_of known.now.terms.now) ≡ true }
     requires known { KnowsItsTerms known.now }
     ensures told { IfOk result (λ ms. ms ≡ region_errors width (trees_of known.now.terms.now) (plans_of known.now.terms.now)) }
-    ensures places { (files : ℕ) → AreFieldsWithin files (trees_of known.now.terms.now) → ArePartsWithin files (plans_of known.now.terms.now) →
-        IfOk result (AreTold files) }
+    ensures places { (files : ℕ) → AreFieldsWithin files (trees_of known.now.terms.now)
+        → ArePartsWithin files (plans_of known.now.terms.now) → IfOk result (AreTold files) }
 {
     let out = seen_faults(alloc, width, known)?;
     Ok(out)

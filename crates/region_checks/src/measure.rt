@@ -10,7 +10,7 @@ ghost use Rattle.field_checks.specs.Lists.{all_errors};
 ghost use Rattle.region_checks.specs.Measures as spec;
 ghost use Rattle.region_checks.specs.Sites.{if_none};
 
-use acpi_names::part::{Over, Part, What, number, part_for};
+use acpi_names::part::{NameRole, Over, What, number, part_for};
 use acpi_values::width::Width;
 use asl_tree::constant::constant;
 use asl_tree::term::{Node, Op, Term};
@@ -34,7 +34,7 @@ pub struct UnitFaults {
 /// What a region or a field says beside its names: the constant length of a region in bytes, or the bytes of a field's
 /// accesses, where its list has no error, and the faults of its units.
 #[derive(Clone, Copy, PartialEq, Eq, Debug)]
-pub enum Measure {
+pub enum Extent {
     Size(Option<u64>),
     Access(Option<u64>, UnitFaults),
 }
@@ -130,7 +130,7 @@ fn field_access(alloc: Global, field: &[Node], flags: u64) -> Result<Option<u64>
 // What one field says that stands alone, and whose flags are these.
 fn list_measures(
     alloc: Global,
-    out: &mut Vec<Measure>,
+    out: &mut Vec<Extent>,
     alone: &[Node],
     flags: Option<u64>,
     body: &[Node],
@@ -145,7 +145,7 @@ fn list_measures(
         return Ok(());
     }
     let access = field_access(alloc, alone, flags)?;
-    out.push(Measure::Access(access, unit_faults(flags, body)))?;
+    out.push(Extent::Access(access, unit_faults(flags, body)))?;
     Ok(())
 }
 
@@ -154,7 +154,7 @@ fn list_measures(
 fn form_measures(
     alloc: Global,
     width: Width,
-    out: &mut Vec<Measure>,
+    out: &mut Vec<Extent>,
     alone: &[Node],
     op: Op,
     args: &[Node],
@@ -164,22 +164,22 @@ fn form_measures(
         (trees_of args.now) (trees_of body.now) (plans_of args.now) (plans_of body.now) (all_errors (plans_of alone.now))) }
 {
     match part_for(op, args, body) {
-        Part::Declares {
+        NameRole::Declares {
             what: What::Region(_),
             ..
         } => {
-            out.push(Measure::Size(region_size(width, args)))?;
+            out.push(Extent::Size(region_size(width, args)))?;
             Ok(())
         }
-        Part::Declares { opens: true, .. } | Part::Scope | Part::Within => {
+        NameRole::Declares { opens: true, .. } | NameRole::Scope | NameRole::Within => {
             all_measures(alloc, width, out, body)?;
             Ok(())
         }
-        Part::Units(Over::Region) => {
+        NameRole::Units(Over::Region) => {
             list_measures(alloc, out, alone, number(args, 1), body)?;
             Ok(())
         }
-        Part::Units(Over::Bank) => {
+        NameRole::Units(Over::Bank) => {
             list_measures(alloc, out, alone, number(args, 3), body)?;
             Ok(())
         }
@@ -192,7 +192,7 @@ fn form_measures(
 fn term_measures(
     alloc: Global,
     width: Width,
-    out: &mut Vec<Measure>,
+    out: &mut Vec<Extent>,
     alone: &[Node],
 ) -> Result<(), AllocError>
     requires { length alone.now ≡ 1 }
@@ -212,7 +212,7 @@ fn term_measures(
 pub fn all_measures(
     alloc: Global,
     width: Width,
-    out: &mut Vec<Measure>,
+    out: &mut Vec<Extent>,
     nodes: &[Node],
 ) -> Result<(), AllocError>
     ensures { OnOk result (out.new.items ≡ out.old.items ++ spec.measures_all width (trees_of nodes.now) (plans_of nodes.now)) }

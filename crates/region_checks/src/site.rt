@@ -15,12 +15,12 @@ ghost use Rattle.region_checks.specs.Regions.{sizes as sizes_of};
 ghost use Rattle.region_checks.specs.Sites.{RegionAt};
 ghost use Rattle.region_checks.specs.Shown.{site_as, optional_site, IsWithin};
 
-use crate::measure::{Measure, UnitFaults};
+use crate::measure::{Extent, UnitFaults};
 use acpi_names::index::Index;
-use acpi_names::mention::{Asked, Declared, Mention, Spot};
+use acpi_names::mention::{Asked, Declared, Mention, Occurrence};
 use acpi_names::part::What;
 use asl_tree::path::Path;
-use name_kinds::tables::place;
+use name_kinds::tables::declared_at;
 use std::alloc::{AllocError, Global};
 
 /// A region that is declared, by the number of its path, with its constant length in bytes; or a field in the region that
@@ -32,7 +32,7 @@ pub enum Site<'a> {
         size: Option<u64>,
     },
     Field {
-        here: Spot,
+        here: Occurrence,
         region: &'a Path,
         scope: usize,
         access: Option<u64>,
@@ -40,20 +40,20 @@ pub enum Site<'a> {
     },
 }
 
-fn size_in(measure: Option<Measure>) -> Option<u64>
+fn size_in(measure: Option<Extent>) -> Option<u64>
     ensures { result ≡ spec.size_in measure }
 {
     match measure {
-        Some(Measure::Size(size)) => size,
+        Some(Extent::Size(size)) => size,
         _ => None,
     }
 }
 
-fn access_in(measure: Option<Measure>) -> Option<u64>
+fn access_in(measure: Option<Extent>) -> Option<u64>
     ensures { result ≡ spec.access_in measure }
 {
     match measure {
-        Some(Measure::Access(access, _)) => access,
+        Some(Extent::Access(access, _)) => access,
         _ => None,
     }
 }
@@ -65,17 +65,17 @@ const NO_FAULTS: UnitFaults = UnitFaults {
     other: None,
 };
 
-fn units_in(measure: Option<Measure>) -> UnitFaults
+fn units_in(measure: Option<Extent>) -> UnitFaults
     ensures { result ≡ spec.units_in measure }
 {
     match measure {
-        Some(Measure::Access(_, units)) => units,
+        Some(Extent::Access(_, units)) => units,
         _ => NO_FAULTS,
     }
 }
 
 // The site that a mention is.
-fn site_with<'a>(index: &Index, mention: Mention<'a>, measure: Option<Measure>) -> Option<Site<'a>>
+fn site_with<'a>(index: &Index, mention: Mention<'a>, measure: Option<Extent>) -> Option<Site<'a>>
     ghost whole: { Whole }
     requires agrees { Agrees index.now.paths index.now.named.items whole.all }
     requires there { IsThere whole (shown index.now.paths mention) }
@@ -90,7 +90,7 @@ fn site_with<'a>(index: &Index, mention: Mention<'a>, measure: Option<Measure>) 
             scope,
             ..
         } => Some(Site::Region {
-            path: place(index, name, scope),
+            path: declared_at(index, name, scope),
             size: size_in(measure),
         }),
         Mention::Used {
@@ -109,7 +109,7 @@ fn site_with<'a>(index: &Index, mention: Mention<'a>, measure: Option<Measure>) 
     }
 }
 
-fn measure_at(measures: &[Measure], place: usize) -> Option<Measure>
+fn measure_at(measures: &[Extent], place: usize) -> Option<Extent>
     ensures { result ≡ slice_get measures.now place }
 {
     measures.get(place).copied()
@@ -120,13 +120,14 @@ pub fn sites<'a>(
     alloc: Global,
     index: &Index,
     mentions: &[Mention<'a>],
-    measures: &[Measure],
+    measures: &[Extent],
 ) -> Result<Vec<Site<'a>>, AllocError>
     ghost whole: { Whole }
     requires agrees { Agrees index.now.paths index.now.named.items whole.all }
     requires all { after_all (all_shown index.now.paths mentions.now) nothing_declared ≡ whole.all }
     ensures within { IfOk result (λ v. All (IsWithin (length index.now.paths)) v.items) }
-    ensures told { IfOk result (λ v. map (site_as index.now.paths) v.items ≡ spec.joined (all_shown index.now.paths mentions.now) measures.now) }
+    ensures told { IfOk result
+        (λ v. map (site_as index.now.paths) v.items ≡ spec.joined (all_shown index.now.paths mentions.now) measures.now) }
 {
     let mut out = Vec::new(alloc);
     let mut next: usize = 0;

@@ -38,7 +38,8 @@ fn add_offset(
     field: &Field,
 ) -> Result<(), AllocError>
     requires { start < 2 ^ 32 }
-    ensures { OnOk result (out.new ≡ out.old ++ cond (bytes_eq field.now.name (codes "    ")) [] (spec.offset_of name start field.now ∷ [])) }
+    ensures { OnOk result
+        (out.new ≡ out.old ++ cond (bytes_eq field.now.name (codes "    ")) [] (spec.offset_of name start field.now ∷ [])) }
 {
     if &field.name == b"    " {
         Ok(())

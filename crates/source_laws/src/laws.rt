@@ -23,7 +23,8 @@ ghost use Rattle.source_laws.specs.Conditionals.{RowTree, BranchList, branch, li
 pub fn first_branch_is_read()
     ensures { (reading : Reading) (setting : Setting) (state : State) (name bytes : List ℕ) (rows : RowTree) →
         rows_of setting.enabled bytes ≡ listed rows → AreWhole rows
-        → of_text reading setting state name bytes ≡ read (alone reading setting (number_of name state.files) name) (number_of name state.files) rows state }
+        → of_text reading setting state name bytes
+        ≡ read (alone reading setting (number_of name state.files) name) (number_of name state.files) rows state }
 {}
 
 /// What stands behind a branch whose condition holds changes nothing, up to the `#endif`: its conditions are not asked,
@@ -66,11 +67,13 @@ pub fn same_strings_and_comments()
         → (more : List Sight) × (sights_of lines ≡ sights_in parts ++ more) }
     ensures open_comment { (lines : List Line) (parts : List Part) (a b : MarkedByte) (star : Bool) (inner : List MarkedByte) →
         All (λ l. All (λ b. b ≢ 10) l.text) lines → Parts (joined lines) parts (a ∷ b ∷ inner)
-        → class a ≡ c.Slash → class b ≡ c.Star → Inside star inner [] → sights_of lines ≡ sights_in parts ++ each InComment (a ∷ b ∷ inner) }
+        → class a ≡ c.Slash → class b ≡ c.Star → Inside star inner []
+        → sights_of lines ≡ sights_in parts ++ each InComment (a ∷ b ∷ inner) }
     ensures open_string { (lines : List Line) (parts : List Part) (q : MarkedByte) (string : Result (List ℕ) Fault)
         (inner rest : List MarkedByte) → All (λ l. All (λ b. b ≢ 10) l.text) lines → Parts (joined lines) parts (q ∷ inner)
         → class q ≡ c.Quote → Content string inner rest → Breaks rest
-        → (w behind : List MarkedByte) × (q ∷ inner ≡ w ++ behind) × Each in_line w × Stops in_line behind × ((more : List Sight) × (sights_of lines ≡ sights_in parts ++ (each InString w ++ more))) }
+        → (w behind : List MarkedByte) × (q ∷ inner ≡ w ++ behind) × Each in_line w × Stops in_line behind
+        × ((more : List Sight) × (sights_of lines ≡ sights_in parts ++ (each InString w ++ more))) }
 {}
 
 /// Each front of a source, tokens that some further ones complete to one, has exactly one depth by the productions

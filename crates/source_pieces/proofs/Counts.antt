@@ -10,7 +10,7 @@ use Rattle.asl_tree.specs.declared.term.Declaration.TheVariants as Declaration
 use Rattle.asl_tree.specs.declared.term.Control.TheVariants as Control
 use Rattle.asl_tree.specs.Tree.{At, Tree, Integer, Use, Apply, Package, VarPackage, External, Method, Container', Scope, If, ElseIf, Else, While, Break, Continue, Switch, Case, Default, Trees, no_trees, tree}
 use Rattle.asl_tree.specs.View.{form, counted}
-use Rattle.asl_tree.specs.Names.{place_of, is_known}
+use Rattle.asl_tree.specs.Names.{declared_path, is_known}
 use Rattle.asl_meaning.specs.Declarations.{ExternalType, known_of}
 use Rattle.acpi_names.specs.Spelled.{inner_scope, spelled, spelled_all}
 use Rattle.named_sessions.specs.Core.{says_of, core_of}
@@ -25,13 +25,13 @@ use Rattle.asl_numbers.specs.Numbers.{inside as within, nodes, numbered, numbere
 use Rattle.hidden_locals.specs.Crossing.{has_continue, have_continue}
 use Rattle.hidden_locals.specs.Turns.{Plan as Turns, value_local, then_trees, else_of, loop_of, loop_terms, continue_terms}
 use Rattle.hidden_locals.specs.Switches.{plan_of, chain_of, unswitched_all, links, default_link, without_switches}
-use Rattle.switch_loops.specs.declared.kind.Kind.{Kind}
+use Rattle.switch_loops.specs.declared.kind.TermRole.{TermRole}
 use Rattle.switch_loops.specs.Places.{Following, chain_places, else_places, turn_places, loop_places, continue_places}
 use Rattle.switch_loops.proofs.KindRows.{tree_kind}
 use Rattle.named_sessions.specs.Shaped.{AreNamed, AreFormed}
-use Rattle.asl_formats.specs.Forms.{formed_all}
-use Rattle.asl_formats.specs.Plans.{formed_plans}
-use Rattle.asl_formats.proofs.PlanTrees.{Stands, StandAll}
+use Rattle.asl_prints.specs.Forms.{formed_all}
+use Rattle.asl_prints.specs.Plans.{formed_plans}
+use Rattle.asl_prints.proofs.PlanTrees.{Stands, StandAll}
 use Rattle.asl_formats.proofs.PlanForms.{formed_stand}
 use Rattle.form_shapes.specs.Near.{AreNear}
 use Rattle.form_shapes.proofs.Formed.{forms_formed}
@@ -77,8 +77,8 @@ module _ (width : Width) (short : Bool) where
 module _ (shorten : Bool) (has : AbsolutePath → Bool) (says : AbsolutePath → ExternalType → ExternalType) where
   mutual
     spelled_count : (t : Tree) (scope : AbsolutePath) → cuts (spelled shorten has says t scope) ≡ cuts t
-    spelled_count (Method at name flags body) scope = ap suc (spelled_counts body (place_of name scope))
-    spelled_count (Container' kind at name body) scope = ap suc (spelled_counts body (place_of name scope))
+    spelled_count (Method at name flags body) scope = ap suc (spelled_counts body (declared_path name scope))
+    spelled_count (Container' kind at name body) scope = ap suc (spelled_counts body (declared_path name scope))
     spelled_count (Scope here at name body) scope = ap suc (spelled_counts body (inner_scope has name scope))
     spelled_count (If test body) scope = ap suc (spelled_counts body scope)
     spelled_count (Else body) scope = ap suc (spelled_counts body scope)
@@ -217,7 +217,7 @@ AreTurned terms places = (turns : Turns) (level : ℕ) (inside : Bool) → all_l
 abbrev AreLinked : Trees → Following → Type 0
 AreLinked cases following = (turns : Turns) (level : ℕ) → AsMany (links turns level cases (default_link turns level cases)) following
 
-alone_lows : (t : Tree) (turns : Turns) (level : ℕ) (inside : Bool) (rest : Trees) → tree_kind t ≡ Kind.Other → all_lows (unswitched_all turns level inside (tree t rest)) ≡ 1 + all_lows (unswitched_all turns level inside rest)
+alone_lows : (t : Tree) (turns : Turns) (level : ℕ) (inside : Bool) (rest : Trees) → tree_kind t ≡ TermRole.Other → all_lows (unswitched_all turns level inside (tree t rest)) ≡ 1 + all_lows (unswitched_all turns level inside rest)
 alone_lows (Method at name flags body) turns level inside rest e = absurd cc
 alone_lows (Container' kind at name body) turns level inside rest e = absurd cc
 alone_lows (Scope here at name body) turns level inside rest e = absurd cc

@@ -12,18 +12,18 @@ use Rattle.asl_tree.specs.Symbols.{takes_target}
 use Rattle.asl_tree.specs.Tree.{At, Tree, Integer, Use, Method, Container', Scope, If, ElseIf, Else, While, For, Switch, Case, Default, Continue, Trees, no_trees, tree}
 use Rattle.asl_tree.specs.View.{fits, form}
 use Rattle.term_places.specs.Places.{holds_terms}
-use Rattle.acpi_names.specs.declared.part.Part.{Part}
-use Rattle.acpi_names.specs.declared.part.Part.TheVariants as P
+use Rattle.acpi_names.specs.declared.part.NameRole.{NameRole}
+use Rattle.acpi_names.specs.declared.part.NameRole.TheVariants as P
 use Rattle.acpi_names.specs.declared.part.What.TheVariants as W
 use Rattle.acpi_names.specs.Parts.{are, part_of}
 use Rattle.acpi_names.specs.Walked.{OfForm}
-use Rattle.asl_lower.specs.declared.kind.Kind.{Kind as LoweredKind}
+use Rattle.asl_lower.specs.declared.kind.TermRole.{TermRole as LoweredKind}
 use Rattle.asl_lower.specs.Kinds.{flagged, tree_kind as lowered_kind, shape_kind as lowered_shape}
 use Rattle.asl_lower.specs.Places as lowered
 use Rattle.asl_lower.proofs.KindRows.{form_kind as lowered_form}
 use Rattle.aml_writer.proofs.Cuts.{holds, form_holds}
 use Rattle.hidden_locals.specs.Crossing.{has_continue, have_continue}
-use Rattle.switch_loops.specs.declared.kind.Kind.{Kind}
+use Rattle.switch_loops.specs.declared.kind.TermRole.{TermRole}
 use Rattle.switch_loops.specs.Kinds.{flagged as flagged_kind, part_kind, form_kind}
 use Rattle.switch_loops.specs.Places.{Following, body_inside, else_places, turn_places, loop_places, form_places, case_places, default_places}
 use Rattle.switch_loops.proofs.KindRows.{tree_kind, kind_form}
@@ -44,17 +44,17 @@ FormedCases = AreFormedCases ⊥ AreNamed (Unit {0}) (Unit {0})
 -- ---- a form of another kind of term
 
 -- loops, and what has to do with Switches
-abbrev of_switches : Kind → Bool
-of_switches Kind.Loop = true
-of_switches Kind.Switch = true
-of_switches Kind.Case = true
-of_switches Kind.Default = true
-of_switches Kind.Continue = true
+abbrev of_switches : TermRole → Bool
+of_switches TermRole.Loop = true
+of_switches TermRole.Switch = true
+of_switches TermRole.Case = true
+of_switches TermRole.Default = true
+of_switches TermRole.Continue = true
 of_switches kind = false
 
-abbrev is_case : Kind → Bool
-is_case Kind.Case = true
-is_case Kind.Default = true
+abbrev is_case : TermRole → Bool
+is_case TermRole.Case = true
+is_case TermRole.Default = true
 is_case kind = false
 
 abbrev pub is_plain : Op → Bool
@@ -72,19 +72,19 @@ has_cases (Op.Control Control.Case) = true
 has_cases (Op.Control Control.Default) = true
 has_cases op = false
 
-part_plain : (p : Part) → of_switches (part_kind p) ≡ false
+part_plain : (p : NameRole) → of_switches (part_kind p) ≡ false
 part_plain (P.Declares n (W.Method flags) true) = refl
 part_plain (P.Declares n (W.Method flags) false) = refl
 part_plain (P.Declares n what true) = refl
 part_plain (P.Declares n what false) = refl
 part_plain p = refl
 
-no_case : (k : Kind) → of_switches k ≡ false → is_case k ≡ false
-no_case Kind.Case e = absurd cc
-no_case Kind.Default e = absurd cc
+no_case : (k : TermRole) → of_switches k ≡ false → is_case k ≡ false
+no_case TermRole.Case e = absurd cc
+no_case TermRole.Default e = absurd cc
 no_case k e = refl
 
-flag_case : (b : Bool) (k : Kind) → is_case k ≡ false → is_case (flagged_kind b k) ≡ false
+flag_case : (b : Bool) (k : TermRole) → is_case k ≡ false → is_case (flagged_kind b k) ≡ false
 flag_case true k e = e
 flag_case false k e = refl
 
@@ -101,10 +101,10 @@ op_plain op args body e = part_plain (part_of op args body)
 op_no_case : (op : Op) (args body : Trees) → has_cases op ≡ false → is_case (form_kind op args body) ≡ false
 op_no_case (Op.Control Control.Case) args body e = absurd cc
 op_no_case (Op.Control Control.Default) args body e = absurd cc
-op_no_case (Op.Control Control.Switch) args body e = flag_case (are 1 args) Kind.Switch refl
-op_no_case (Op.Control Control.Continue) args body e = flag_case (are 0 args && are 0 body) Kind.Continue refl
-op_no_case (Op.Control Control.While) args body e = flag_case (are 1 args) Kind.Loop refl
-op_no_case (Op.Control Control.For) args body e = flag_case (are 3 args) Kind.Loop refl
+op_no_case (Op.Control Control.Switch) args body e = flag_case (are 1 args) TermRole.Switch refl
+op_no_case (Op.Control Control.Continue) args body e = flag_case (are 0 args && are 0 body) TermRole.Continue refl
+op_no_case (Op.Control Control.While) args body e = flag_case (are 1 args) TermRole.Loop refl
+op_no_case (Op.Control Control.For) args body e = flag_case (are 3 args) TermRole.Loop refl
 op_no_case op args body e = no_case (part_kind (part_of op args body)) (part_plain (part_of op args body))
 
 no_flag : (a b : Bool) (op : Plain) → flagged a (flagged b (LoweredKind.Operated op)) ≡ LoweredKind.ElseIf → ⊥
@@ -120,7 +120,7 @@ no_else_if (Op.Control Control.Else) (tree t ts) body e k = absurd cc
 no_else_if (Op.Symbolic (Symbolic.Operator op)) args body e k = no_flag (are 0 body && fits (row_of op).operands args) (takes_target op) op k
 no_else_if op args body e k = absurd cc
 
-other_kind : (t : Tree) → holds t ≡ false → (lowered_kind t ≡ LoweredKind.ElseIf → ⊥) → of_switches (tree_kind t) ≡ false → tree_kind t ≡ Kind.Other
+other_kind : (t : Tree) → holds t ≡ false → (lowered_kind t ≡ LoweredKind.ElseIf → ⊥) → of_switches (tree_kind t) ≡ false → tree_kind t ≡ TermRole.Other
 other_kind (Method at name flags body) h never e = absurd cc
 other_kind (Container' kind at name body) h never e = absurd cc
 other_kind (Scope here at name body) h never e = absurd cc
@@ -136,13 +136,13 @@ other_kind Continue h never e = absurd cc
 other_kind t h never e = refl
 
 -- one that has no terms in its braces, and nothing to do with Switches
-pub plain_kind : (here : At) (op : Op) (args body : Trees) → holds_terms op ≡ false → is_plain op ≡ true → tree_kind (form here op args body) ≡ Kind.Other
+pub plain_kind : (here : At) (op : Op) (args body : Trees) → holds_terms op ≡ false → is_plain op ≡ true → tree_kind (form here op args body) ≡ TermRole.Other
 plain_kind here op args body h e =
     other_kind (form here op args body) (form_holds here op args body h) (λ k. no_else_if op args body e (sym (lowered_form here op args body) ∙ k)) (ap of_switches (kind_form here op args body) ∙ op_plain op args body e)
 
 -- ---- whether a Continue leaves it
 
-other_left : (t : Tree) → tree_kind t ≡ Kind.Other → has_continue t ≡ false
+other_left : (t : Tree) → tree_kind t ≡ TermRole.Other → has_continue t ≡ false
 other_left (Container' kind at name body) e = absurd cc
 other_left (Scope here at name body) e = absurd cc
 other_left (If test body) e = absurd cc
@@ -210,7 +210,7 @@ case_left here op args body cases left more h i k = absurd (not_among ⊥ here o
 
 -- ---- what stands for it
 
-stays : (p : Part) (op : Op) (args : Trees) (inside left : Bool) (place : Place) (inner chain : List Place) → form_places (part_kind p) op args inside left place inner chain ≡ lowered.form_places op args place inner
+stays : (p : NameRole) (op : Op) (args : Trees) (inside left : Bool) (place : Place) (inner chain : List Place) → form_places (part_kind p) op args inside left place inner chain ≡ lowered.form_places op args place inner
 stays (P.Declares n (W.Method flags) true) op args inside left place inner chain = refl
 stays (P.Declares n (W.Method flags) false) op args inside left place inner chain = refl
 stays (P.Declares n what true) op args inside left place inner chain = refl

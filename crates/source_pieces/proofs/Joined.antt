@@ -10,15 +10,15 @@ use Rattle.asl_shape.specs.Forms.{errors_at}
 use Rattle.program_shapes.specs.Kept.{IsKeptSource}
 use Rattle.program_shapes.specs.Sources.{plans_in, statements_in, fields_in, width_in, core_in, table_in}
 use Rattle.program_shapes.proofs.Tables.{terms_are_formed, terms_are_near}
-use Rattle.aml_writer.specs.Pieces.{Part, joined_pieces}
+use Rattle.aml_sizes.specs.Pieces.{CutBytes, joined_pieces}
 use Rattle.aml_writer.specs.Cuts.{pieces_with, ArePieces}
 use Rattle.aml_writer.proofs.Cuts.{joined_parts, parts_are}
-use Rattle.aml_writer.proofs.Joined.{put_joined}
+use Rattle.aml_sizes.proofs.Joined.{put_joined}
 use Rattle.source_pieces.specs.Pieces.{places_in, parts_in, pieces_in, ArePiecesOf}
 use Rattle.source_pieces.proofs.Counts.{cut_counts, core_count}
 
 -- where there are as many places as parts, nothing is lost
-with_places : (lines : List Line) (places : List Place) (parts : List Part) → length places ≡ length parts → joined_pieces (pieces_with lines places parts) ≡ joined_parts parts
+with_places : (lines : List Line) (places : List Place) (parts : List CutBytes) → length places ≡ length parts → joined_pieces (pieces_with lines places parts) ≡ joined_parts parts
 with_places lines [] [] e = refl
 with_places lines [] (part ∷ parts) e = absurd (omega (arith, e))
 with_places lines (place ∷ places) [] e = absurd (omega (arith, e))

@@ -11,12 +11,12 @@ use Rattle.asl_shape.specs.Plans.{plan_of, row_plans, plans_of}
 use Rattle.hidden_locals.specs.Crossing.{has_continue, have_continue}
 use Rattle.switch_loops.specs.Places.{Following, chain_places, body_inside, looped_at, looped_row, cases_row, default_row, looped_places}
 use Rattle.named_sessions.specs.Shaped.{AreNamed, AreFormed}
-use Rattle.asl_formats.specs.Forms.{formed_all}
-use Rattle.asl_formats.specs.Plans.{formed_plans}
+use Rattle.asl_prints.specs.Forms.{formed_all}
+use Rattle.asl_prints.specs.Plans.{formed_plans}
 use Rattle.form_shapes.specs.Near.{AreNear}
 use Rattle.form_shapes.proofs.Formed.{forms_formed}
 use Rattle.source_pieces.specs.Places.{is_left, are_left, core_places_at, core_places_in, cases_in, core_places}
-use Rattle.asl_formats.proofs.PlanTrees.{nodes_stand}
+use Rattle.asl_prints.proofs.PlanTrees.{nodes_stand}
 use Rattle.source_pieces.proofs.Stepped.{core_formed}
 use Rattle.source_pieces.proofs.Forms.{Formed, FormedTerms, FormedCases, form_left, case_left, form_planned, case_planned}
 

@@ -9,11 +9,11 @@ use Rattle.asl_tree.specs.declared.term.Control.TheVariants as Control
 use Rattle.asl_tree.specs.Tree.{At, Tree, Integer, Use, For, Trees, no_trees, tree}
 use Rattle.asl_tree.specs.View.{form}
 use Rattle.asl_shape.specs.Plans.{Plan, a_text, a_name, a_unit, a_call, debug, omitted, a_form, Plans, no_plans, plan, join}
-use Rattle.asl_formats.specs.Forms as F
-use Rattle.asl_formats.specs.Nodes.{goes_in}
-use Rattle.asl_formats.specs.Plans as P
+use Rattle.asl_prints.specs.Forms as F
+use Rattle.asl_prints.specs.Nodes.{goes_in}
+use Rattle.asl_prints.specs.Plans as P
 use Rattle.asl_formats.proofs.Sources.{steppable_same}
-use Rattle.asl_formats.proofs.PlanTrees.{Stands, StandAll, steppable_stands}
+use Rattle.asl_prints.proofs.PlanTrees.{Stands, StandAll, steppable_stands}
 use Rattle.asl_formats.proofs.PlanForms.{formed_stands, formed_stand}
 use Rattle.named_sessions.specs.Shaped.{AreNamed, IsFormed, AreFormed, AreFormedCases}
 use Rattle.form_shapes.specs.Near.{IsNear, AreNear}

@@ -16,13 +16,13 @@ use Rattle.asl_shape.specs.Plans.{plans_of}
 use Rattle.asl_shape.specs.Forms.{block_place}
 use Rattle.wrapped_externals.specs.Starts.{placed_where}
 use Rattle.program_shapes.specs.Sources.{plans_in, fields_in, lowered_in, core_in}
-use Rattle.aml_writer.specs.Pieces.{Part}
+use Rattle.aml_sizes.specs.Pieces.{CutBytes}
 use Rattle.aml_writer.specs.Cuts.{table_parts, ArePieces, IsCut}
 use Rattle.source_pieces.specs.Places.{core_places}
 use Rattle.source_pieces.specs.Pieces.{places_in, parts_in}
 
 -- the same places and the same bytes
-same_pieces : (lines : List Line) (places places' : List Place) (parts parts' : List Part) (pieces : List Piece) → places ≡ places' → parts ≡ parts' → ArePieces lines places parts pieces → ArePieces lines places' parts' pieces
+same_pieces : (lines : List Line) (places places' : List Place) (parts parts' : List CutBytes) (pieces : List Piece) → places ≡ places' → parts ≡ parts' → ArePieces lines places parts pieces → ArePieces lines places' parts' pieces
 same_pieces lines places places' parts parts' pieces e f h = subst (λ ps. ArePieces lines places' ps pieces) f (subst (λ ps. ArePieces lines ps parts pieces) e h)
 
 -- what is written of a core: a block in which loops stand for Switches, that was lowered, and whose names were spelled, stands where the source's block stands and has its

@@ -7,15 +7,15 @@ use Rattle.acpi_values.specs.Paths.{AbsolutePath}
 use Rattle.acpi_state.specs.Outcomes.{choose}
 use Rattle.asl_tree.specs.declared.path.Path.{Path}
 use Rattle.asl_tree.specs.declared.term.NamedDescriptor.{NamedDescriptor}
-use Rattle.asl_tree.specs.Names.{place_of, denoted}
+use Rattle.asl_tree.specs.Names.{declared_path, denoted}
 use Rattle.acpi_names.specs.Errors.{NameError, Missing, unless}
 use Rattle.acpi_names.specs.Mentions.{Mention, Used', Sought, Called, Declares, Outside, Opens}
 use Rattle.asl_shape.specs.Plans.{Plans}
 use Rattle.asl_numbers.specs.Numbers.{numbered_all}
-use Rattle.descriptor_names.specs.Resolved.{mentions_of, names_of, table_of}
-use Rattle.descriptor_names.specs.Senses.{Sense, Nothing, descriptor_sense, sense_of}
-use Rattle.descriptor_names.specs.Told.{sense_in, below_errors, all_below}
-use Rattle.descriptor_names.specs.Told as told
+use Rattle.descriptor_checks.specs.Resolved.{mentions_of, names_of, table_of}
+use Rattle.descriptor_checks.specs.Senses.{Sense, Nothing, descriptor_sense, sense_of}
+use Rattle.descriptor_checks.specs.Told.{sense_in, below_errors, all_below}
+use Rattle.descriptor_checks.specs.Told as told
 use Rattle.unused_names.specs.Unused.{is_gone, is_below, Spares}
 use Rattle.unused_names.specs.Uses.{UsesOther, UseOthers, IsNotBelow, AreNotBelow}
 use Rattle.unused_names.specs.Left.{is_descriptor, DescriptorsAreApart}
@@ -57,7 +57,7 @@ module _ (gone has : AbsolutePath → Bool) (look : AbsolutePath → Option Name
   not_below false e h = refl
 
   is_not_below : (m : Mention) → below_errors look m ≡ [] → IsNotBelow gone has m
-  is_not_below (Declares at name as' scope) h = below_same (place_of name scope) ∙ not_below (told.is_below look (place_of name scope)) (Missing at name) h
+  is_not_below (Declares at name as' scope) h = below_same (declared_path name scope) ∙ not_below (told.is_below look (declared_path name scope)) (Missing at name) h
   is_not_below (Used' asked at name scope) h = tt
   is_not_below (Sought at name scope) h = tt
   is_not_below (Called asked at name args scope) h = tt

@@ -11,8 +11,8 @@ use Rattle.acpi_names.specs.Tables.{entry_at, Tabled}
 use Rattle.acpi_names.specs.Terms.{are_terms}
 use Rattle.asl_shape.specs.Plans.{Plans}
 use Rattle.asl_numbers.specs.Numbers.{numbered_all}
-use Rattle.descriptor_names.specs.Declaring.{stripped}
-use Rattle.descriptor_names.specs.Resolved.{table_of}
+use Rattle.descriptor_fields.specs.Declaring.{stripped}
+use Rattle.descriptor_checks.specs.Resolved.{table_of}
 use Rattle.unused_names.specs.Left.{is_descriptor, DescriptorsAreApart}
 use Rattle.stripped_names.specs.Whole.{AreWhole}
 use Rattle.stripped_names.proofs.Right.{stripped_named}

@@ -13,7 +13,7 @@ use Rattle.asl_tree.specs.declared.term.Special.TheVariants as Special
 use Rattle.asl_tree.specs.declared.term.Symbolic.TheVariants as Symbolic
 use Rattle.asl_tree.specs.Tree.{At, Tree, Integer, String, Omitted, Use, Package, VarPackage, Misshapen, Trees, no_trees, tree, count, Field, IndexField, BankField, UnitName}
 use Rattle.asl_tree.specs.View.{fits, form, operands_as, apply_of, operated, buffer, body_bytes, packaged, counted, items_in}
-use Rattle.descriptor_names.specs.Declaring.{has_terms, is_naming}
+use Rattle.descriptor_fields.specs.Declaring.{has_terms, is_naming}
 use Rattle.unused_names.specs.Left.{is_fill, declares_descriptor, left_term, left_terms}
 use Rattle.stripped_names.specs.Whole.{IsShaped}
 

@@ -9,7 +9,7 @@ use Rattle.acpi_names.specs.Parts.{Agrees}
 use Rattle.acpi_names.specs.Terms.{are_terms}
 use Rattle.asl_shape.specs.Plans.{Plans}
 use Rattle.asl_numbers.specs.Numbers.{numbered_all}
-use Rattle.descriptor_names.specs.Declaring.{stripped}
+use Rattle.descriptor_fields.specs.Declaring.{stripped}
 use Rattle.unused_names.specs.Left.{left_terms, is_descriptor, DescriptorsAreApart}
 use Rattle.unused_names.proofs.Left.{terms_left}
 use Rattle.unused_names.proofs.Program.{names_stay, kinds_stay, named_left, calls_left, flags_left}

@@ -10,7 +10,7 @@ use Rattle.acpi_names.proofs.Plain.{is_plain, plain_form}
 use Rattle.asl_shape.specs.Plans.{Plan, a_fill, a_form, Plans, no_plans, plan, plan_at, join}
 use Rattle.asl_shape.specs.Descriptors.{named_of}
 use Rattle.asl_numbers.specs.Numbers.{inside, nodes, numbered, numbered_all}
-use Rattle.descriptor_names.specs.Declaring.{has_terms, alone, is_naming, declared_by, unless_declared, closed, stripped}
+use Rattle.descriptor_fields.specs.Declaring.{has_terms, alone, is_naming, declared_by, unless_declared, closed, stripped}
 use Rattle.unused_names.specs.Bare.{nowhere, bare, bare_all}
 use Rattle.unused_names.specs.Left.{is_fill, declares_descriptor, left_term, left_terms}
 use Rattle.unused_names.proofs.BareForms.{bare_form}

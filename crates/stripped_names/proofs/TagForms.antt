@@ -15,8 +15,8 @@ use Rattle.asl_tree.specs.declared.term.NamedDescriptor.{NamedDescriptor}
 use Rattle.asl_tree.specs.Tree.{At, Tree, Integer, String, Omitted, Use, Item, Package, VarPackage, Misshapen, Trees, no_trees, tree, count, Field, IndexField, BankField, UnitName}
 use Rattle.asl_tree.specs.View.{fits, form, operands_as, apply_of, operated, buffer, body_bytes, packaged, counted, item_in, items_in}
 use Rattle.acpi_names.proofs.Plain.{is_plain}
-use Rattle.descriptor_names.specs.Declaring.{has_terms, is_naming}
-use Rattle.descriptor_names.specs.Resolved.{at_node}
+use Rattle.descriptor_fields.specs.Declaring.{has_terms, is_naming}
+use Rattle.descriptor_fields.specs.Nodes.{at_node}
 use Rattle.unused_names.specs.Left.{is_fill}
 use Rattle.stripped_names.proofs.LeftForms.{second}
 use Rattle.stripped_names.proofs.Tagged.{IsFree, FreeItems, Tagged, AllTagged}

@@ -14,8 +14,9 @@ use Rattle.acpi_names.proofs.Plain.{plain_form}
 use Rattle.asl_shape.specs.Plans.{Plan, a_name, a_unit, a_form, Plans, no_plans, plan, plan_at}
 use Rattle.asl_shape.specs.Descriptors.{named_of}
 use Rattle.asl_numbers.specs.Numbers.{inside, nodes, numbered, numbered_all}
-use Rattle.descriptor_names.specs.Declaring.{has_terms, is_naming, declared_by}
-use Rattle.descriptor_names.specs.Resolved.{at_node, named_first, named_in, named_from, described, mentions_of, table_of}
+use Rattle.descriptor_fields.specs.Declaring.{has_terms, is_naming, declared_by}
+use Rattle.descriptor_fields.specs.Nodes.{at_node, named_first, named_in, named_from}
+use Rattle.descriptor_checks.specs.Resolved.{described, mentions_of, table_of}
 use Rattle.unused_names.specs.Left.{is_fill, is_one_of, is_descriptor}
 use Rattle.stripped_names.specs.Whole.{Where, IsWhole, AreWhole}
 use Rattle.stripped_names.proofs.LeftForms.{second}

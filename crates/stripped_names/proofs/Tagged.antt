@@ -8,12 +8,13 @@ use Rattle.acpi_state.specs.Outcomes.{choose}
 use Rattle.asl_tree.specs.FieldItems.{FieldItem, UnitItem, SkipItem, OffsetItem, AccessItem, ConnectionItem, ToName, ToBytes}
 use Rattle.asl_tree.specs.declared.path.Path.{Path}
 use Rattle.asl_tree.specs.declared.term.NamedDescriptor.{NamedDescriptor}
-use Rattle.asl_tree.specs.Names.{place_of}
+use Rattle.asl_tree.specs.Names.{declared_path}
 use Rattle.asl_tree.specs.Tree.{At, Tree, Return, Name, Alias, External, Method, Mutex, Event, Container', Scope, Trees, no_trees, tree, OperationRegion, Field, IndexField, BankField, CreateField, UnitName, If, ElseIf, Else, While, For, Print, Switch, Case, Default}
 use Rattle.asl_meaning.specs.Declarations.{Declared, As, AliasOf, Declarations, with_declared, scope_path, declare, as_unit, as_buffer_field}
 use Rattle.acpi_names.specs.Errors.{Anything, unit_path}
 use Rattle.acpi_names.specs.Mentions.{Mention, Used', Sought, Called, Declares, Outside, Opens, is_spot, mentions, mentions_all, operand_mentions, item_mentions, term_mentions, block_mentions}
-use Rattle.descriptor_names.specs.Resolved.{at_node, described_by, described}
+use Rattle.descriptor_fields.specs.Nodes.{at_node}
+use Rattle.descriptor_checks.specs.Resolved.{described_by, described}
 use Rattle.unused_names.specs.Left.{is_fill, descriptors_of, descriptors, is_one_of}
 use Rattle.unused_names.proofs.Pieces.{AllStay, value_stays, values_stay, operands_stay}
 
@@ -111,17 +112,17 @@ module _ (named : List (ℕ × NamedDescriptor)) where
   declares_none : (at : At) (name : Path) (as' : Declared) (scope : AbsolutePath) (ms : List Mention) → IsFree at → found (Declares at name as' scope ∷ ms) ≡ found ms
   declares_none at name as' scope ms h = by_node (at_node named at.id) h
     where
-      by_node : (o : Option NamedDescriptor) → is_some o ≡ false → paths_in (choose o [] (λ descriptor. (place_of name scope, descriptor) ∷ []) ++ described named ms) ≡ found ms
+      by_node : (o : Option NamedDescriptor) → is_some o ≡ false → paths_in (choose o [] (λ descriptor. (declared_path name scope, descriptor) ∷ []) ++ described named ms) ≡ found ms
       by_node None e = refl
       by_node (Some descriptor) e = absurd cc
 
   -- one that may be
-  declares_some : (at : At) (name : Path) (as' : Declared) (scope : AbsolutePath) (ms : List Mention) (b : Bool) → is_some (at_node named at.id) ≡ b → found ms ≡ [] → found (Declares at name as' scope ∷ ms) ≡ (if b then place_of name scope ∷ [] else [])
+  declares_some : (at : At) (name : Path) (as' : Declared) (scope : AbsolutePath) (ms : List Mention) (b : Bool) → is_some (at_node named at.id) ≡ b → found ms ≡ [] → found (Declares at name as' scope ∷ ms) ≡ (if b then declared_path name scope ∷ [] else [])
   declares_some at name as' scope ms b e h = by_node (at_node named at.id) b e
     where
-      by_node : (o : Option NamedDescriptor) (b : Bool) → is_some o ≡ b → paths_in (choose o [] (λ descriptor. (place_of name scope, descriptor) ∷ []) ++ described named ms) ≡ (if b then place_of name scope ∷ [] else [])
+      by_node : (o : Option NamedDescriptor) (b : Bool) → is_some o ≡ b → paths_in (choose o [] (λ descriptor. (declared_path name scope, descriptor) ∷ []) ++ described named ms) ≡ (if b then declared_path name scope ∷ [] else [])
       by_node None false e = h
-      by_node (Some descriptor) true e = ap (λ ps. place_of name scope ∷ ps) h
+      by_node (Some descriptor) true e = ap (λ ps. declared_path name scope ∷ ps) h
       by_node None true e = absurd cc
       by_node (Some descriptor) false e = absurd cc
 
@@ -144,12 +145,12 @@ module _ (named : List (ℕ × NamedDescriptor)) where
     term (Alias from source at name) scope d h = declares_none at name (AliasOf source scope) scope [] h
     term (External here at name type parameters) scope d h = refl
     term (Method at name flags body) scope d h =
-        let path : AbsolutePath = place_of name scope in
+        let path : AbsolutePath = declared_path name scope in
         declares_none at name (As (MethodObject flags)) scope (block_mentions body path (with_declared path (As (MethodObject flags)) d)) h.0 ∙ block body path (with_declared path (As (MethodObject flags)) d) h.1
     term (Mutex at name level) scope d h = declares_none at name (As (MutexObject level)) scope [] h
     term (Event at name) scope d h = declares_none at name (As EventObject) scope [] h
     term (Container' kind at name body) scope d h =
-        let path : AbsolutePath = place_of name scope in
+        let path : AbsolutePath = declared_path name scope in
         declares_none at name (As (ContainerObject kind)) scope (block_mentions body path (with_declared path (As (ContainerObject kind)) d)) h.0 ∙ block body path (with_declared path (As (ContainerObject kind)) d) h.1
     term (Scope here at name body) scope d h = block body (scope_path d name scope) d h
     term (If v body) scope d h = with_body v body scope d (block body scope d h)

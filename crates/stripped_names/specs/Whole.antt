@@ -4,7 +4,7 @@ use Rattle.std.specs.Prelude.{Bool, true, false, []}
 use Rattle.asl_tree.specs.Tree.{Tree, Misshapen}
 use Rattle.asl_shape.specs.Plans.{Plan, a_fill, a_form, Plans, no_plans, plan, plan_at}
 use Rattle.asl_numbers.specs.Numbers.{numbered}
-use Rattle.descriptor_names.specs.Declaring.{has_terms, is_naming}
+use Rattle.descriptor_fields.specs.Declaring.{has_terms, is_naming}
 use Rattle.unused_names.specs.Bare.{nowhere}
 
 abbrev pub IsShaped : Tree → Type 0
@@ -23,7 +23,8 @@ Where false A = Unit {0}
 abbrev mutual
   pub IsWhole : Plan → Type 0
   IsWhole (a_form op args body) =
-      IsShaped (numbered nowhere 0 (a_form op args body)) × (Where (is_naming op) (Describes (plan_at args 1)) × Where (has_terms op) (AreWhole body))
+      IsShaped (numbered nowhere 0 (a_form op args body))
+      × (Where (is_naming op) (Describes (plan_at args 1)) × Where (has_terms op) (AreWhole body))
   IsWhole _ = Unit {0}
 
   pub AreWhole : Plans → Type 0

@@ -7,3 +7,4 @@ pub mod Forms
 pub mod Walks
 pub mod Silent
 pub mod Switchless
+pub mod Absent

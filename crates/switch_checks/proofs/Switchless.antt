@@ -8,8 +8,8 @@ use Rattle.asl_tree.specs.declared.term.Term.{Term}
 use Rattle.asl_tree.specs.declared.term.Term as D
 use Rattle.asl_tree.specs.Tree.{At, Trees}
 use Rattle.asl_tree.specs.View.{tree_of, row_trees, trees_of}
-use Rattle.acpi_names.specs.declared.part.Part.{Part}
-use Rattle.acpi_names.specs.declared.part.Part.TheVariants as P
+use Rattle.acpi_names.specs.declared.part.NameRole.{NameRole}
+use Rattle.acpi_names.specs.declared.part.NameRole.TheVariants as P
 use Rattle.acpi_names.specs.declared.part.What.TheVariants as W
 use Rattle.acpi_names.specs.Parts.{part_of}
 use Rattle.asl_shape.specs.Plans.{Plans, plan_of, row_plans, plans_of}
@@ -27,7 +27,7 @@ own_silent terms plans e = ap (λ b. told (not b) 6061 (unwrap_or (first_switch 
 few_silent : (terms : Trees) (plans : Plans) → is_enough terms ≡ true → all_method_errors terms plans ≡ [] → few_locals terms plans ≡ []
 few_silent terms plans e h = ap (λ ms. ms ++ all_method_errors terms plans) (own_silent terms plans e) ∙ h
 
-part_silent : (p : Part) (body : Trees) (plans : Plans) → is_enough body ≡ true → all_method_errors body plans ≡ [] → part_errors p body plans ≡ []
+part_silent : (p : NameRole) (body : Trees) (plans : Plans) → is_enough body ≡ true → all_method_errors body plans ≡ [] → part_errors p body plans ≡ []
 part_silent (P.Declares n (W.Method flags) true) body plans e h = few_silent body plans e h
 part_silent (P.Declares n what true) body plans e h = h
 part_silent (P.Declares n what false) body plans e h = refl

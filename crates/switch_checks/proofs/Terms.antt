@@ -15,9 +15,11 @@ use Rattle.asl_tree.specs.declared.term.Term as D
 use Rattle.asl_tree.specs.declared.term.Term.TheVariants as V
 use Rattle.asl_shape.specs.Plans.{Plan, an_integer, a_text, a_fill, a_word, a_local, an_arg, debug, omitted, a_name, a_unit, a_skip, an_offset, an_access, a_call, a_form, Plans, plan_of, plans_of}
 use Rattle.asl_shape.proofs.Plans.{plan_form, plan_call}
+use Rattle.asl_shape.proofs.Terms.{integer_term, text_term}
 use Rattle.statement_checks.proofs.Terms.{form_is}
+use Rattle.switch_loops.specs.Switched.{is_switch}
 use Rattle.switch_checks.specs.Values.{byte_of, alone_bytes, size_in, is_package, form_value, value_of}
-use Rattle.switch_checks.specs.Repeats.{found_in, is_case, is_switch, value_at, members_at, first_members, case_values, switch_repeats, term_repeats, repeated_values}
+use Rattle.switch_checks.specs.Repeats.{found_in, is_case, value_at, members_at, first_members, case_values, switch_repeats, term_repeats, repeated_values}
 use Rattle.switch_checks.specs.Locals.{is_method, switch_in, first_switch}
 
 -- what holds of each plan that a term may have
@@ -145,3 +147,5 @@ module _ (place : Place) where
   inside_here t op args body ys e b other outer =
       ap (λ c. if c then None else first_switch (plans_of ys)) (sym outer)
       ∙ ap (λ c. if c then Some place else if is_method op then None else first_switch (plans_of ys)) (sym other) ∙ sym (form_switch t op args body ys e b)
+
+pub ruleset value_rules = (integer_term, text_term, form_value_is, no_value)

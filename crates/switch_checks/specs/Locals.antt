@@ -7,13 +7,13 @@ use Rattle.asl_tree.specs.declared.term.Declaration.TheVariants as Declaration
 use Rattle.asl_tree.specs.Tree.{Tree, Method, Container', Scope, Trees, no_trees, tree, If, ElseIf, Else, While, For, Switch, Case, Default}
 use Rattle.asl_shape.specs.Plans.{Plan, a_form, Plans, no_plans, plan, plan_at}
 use Rattle.asl_shape.specs.Shapes.{nowhere}
-use Rattle.acpi_names.specs.declared.part.Part.{Part}
-use Rattle.acpi_names.specs.declared.part.Part.TheVariants as P
+use Rattle.acpi_names.specs.declared.part.NameRole.{NameRole}
+use Rattle.acpi_names.specs.declared.part.NameRole.TheVariants as P
 use Rattle.acpi_names.specs.declared.part.What.{What}
 use Rattle.acpi_names.specs.declared.part.What.TheVariants as W
 use Rattle.hidden_locals.specs.Switches.{is_enough}
+use Rattle.switch_loops.specs.Switched.{is_switch}
 use Rattle.switch_checks.specs.Told.{told}
-use Rattle.switch_checks.specs.Repeats.{is_switch}
 
 abbrev pub is_method : Op → Bool
 is_method (Op.Declaration Declaration.Method) = true
@@ -77,7 +77,7 @@ declared_errors (W.Method flags) true body plans = few_locals body plans
 declared_errors what true body plans = all_method_errors body plans
 declared_errors what false body plans = []
 
-abbrev pub part_errors : Part → Trees → Plans → List Message
+abbrev pub part_errors : NameRole → Trees → Plans → List Message
 part_errors (P.Declares name what opens) body plans = declared_errors what opens body plans
 part_errors P.Scope body plans = all_method_errors body plans
 part_errors P.Within body plans = all_method_errors body plans

@@ -6,6 +6,7 @@ use Rattle.acpi_values.specs.declared.width.Width.{Width}
 use Rattle.asl_tree.specs.declared.term.Op.{Op}
 use Rattle.asl_tree.specs.declared.term.Control.TheVariants as Control
 use Rattle.asl_shape.specs.Plans.{Plan, a_form, Plans, no_plans, plan}
+use Rattle.switch_loops.specs.Switched.{is_switch}
 use Rattle.switch_checks.specs.Told.{told}
 use Rattle.switch_checks.specs.Values.{CaseValue, value_of, is_package, occurs}
 
@@ -22,10 +23,6 @@ found_in f (plan place p ps) = f place p ++ found_in f ps
 abbrev pub found_at : Place → Option CaseValue → List Found
 found_at place None = []
 found_at place (Some value) = record { value = value; place = place } ∷ []
-
-abbrev pub is_switch : Op → Bool
-is_switch (Op.Control Control.Switch) = true
-is_switch op = false
 
 abbrev pub is_case : Op → Bool
 is_case (Op.Control Control.Case) = true

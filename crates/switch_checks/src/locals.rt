@@ -6,16 +6,15 @@ ghost use Rattle.asl_tree.specs.View.{trees_of};
 ghost use Rattle.acpi_names.specs.Parts.{part_of};
 ghost use Rattle.switch_checks.specs.Locals as spec;
 
-use crate::repeat::is_switch;
 use crate::told::tell_if;
-use acpi_names::part::{Part, What, part_for};
+use acpi_names::part::{NameRole, What, part_for};
 use asl_tree::term::{Declaration, Node, Op, Term};
 use iasl_messages::message::Messages;
 use iasl_messages::number::TOO_FEW_LOCALS;
 use iasl_messages::place::Place;
 use std::alloc::{AllocError, Global};
 use switch_loops::enough::is_enough;
-use switch_loops::switched::has_switch;
+use switch_loops::switched::{has_switch, is_switch};
 
 fn is_method(op: Op) -> bool
     ensures { result ≡ spec.is_method op }
@@ -107,7 +106,7 @@ fn form_errors(
         (plans_of body.now)) }
 {
     match part_for(op, args, body) {
-        Part::Declares {
+        NameRole::Declares {
             what: What::Method(_),
             opens: true,
             ..
@@ -115,7 +114,7 @@ fn form_errors(
             body_errors(alloc, out, body)?;
             Ok(())
         }
-        Part::Declares { opens: true, .. } | Part::Scope | Part::Within => {
+        NameRole::Declares { opens: true, .. } | NameRole::Scope | NameRole::Within => {
             method_errors(alloc, out, body)?;
             Ok(())
         }

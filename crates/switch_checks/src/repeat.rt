@@ -14,17 +14,12 @@ use iasl_messages::number::CASE_OCCURS_TWICE;
 use iasl_messages::place::Place;
 use indexmap::IndexSet;
 use std::alloc::{AllocError, Global};
+use switch_loops::switched::is_switch;
 
 fn first_of(nodes: &[Node]) -> Option<&Node>
     ensures { option_copied result ≡ slice_get nodes.now 0 }
 {
     nodes.get(0)
-}
-
-pub(crate) fn is_switch(op: Op) -> bool
-    ensures { result ≡ spec.is_switch op }
-{
-    matches!(op, Op::Control(Control::Switch))
 }
 
 fn is_case(op: Op) -> bool
@@ -41,7 +36,8 @@ fn note(
     value: CaseValue,
     place: Place,
 ) -> Result<(), AllocError>
-    ensures { OnOk result (spec.Notes (spec.found_at place (Some (shown value))) (values_in seen.old) (values_in seen.new) out.old out.new) }
+    ensures { OnOk result
+        (spec.Notes (spec.found_at place (Some (shown value))) (values_in seen.old) (values_in seen.new) out.old out.new) }
 {
     let (_, is_new) = seen.insert_full(value)?;
     tell_if(alloc, out, !is_new, CASE_OCCURS_TWICE, place)?;

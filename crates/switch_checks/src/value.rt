@@ -172,7 +172,7 @@ fn string_value(alloc: Global, text: &[u8]) -> Result<CaseValue, AllocError>
 }
 
 /// The value of a constant; Integers are compared at this width.
-#[tactic(auto, using(asl_shape::proofs::Terms::integer_term, asl_shape::proofs::Terms::text_term, crate::proofs::Terms::form_value_is, crate::proofs::Terms::no_value))]
+#[tactic(auto, using(crate::proofs::Terms::value_rules))]
 pub(crate) fn value_of(
     alloc: Global,
     width: Width,

@@ -1,6 +1,6 @@
 -- Plans that give the same Locals make the same loops.
-use Rattle.std.proofs.Common.{◌≡◌, ℕ, suc, ◌+◌, Bool, true, false, List, [], ◌∷◌, Option, Some, None, drop, refl, sym, ap, ◌∙◌, arith}
-use Rattle.asl_tree.specs.Tree.{Tree, Method, Container', Scope, If, ElseIf, Else, While, Switch, Case, Default, Break, Continue, Trees, no_trees, tree}
+use Rattle.std.proofs.Common.{◌≡◌, ℕ, suc, ◌+◌, Bool, true, false, List, [], ◌∷◌, Option, Some, drop, refl, ap, ◌∙◌, arith}
+use Rattle.asl_tree.specs.Tree.{Tree, Container', Scope, If, ElseIf, Else, While, Switch, Case, Default, Break, Continue, Trees, no_trees, tree}
 use Rattle.hidden_locals.specs.Crossing.{have_continue}
 use Rattle.hidden_locals.specs.Turns.{Plan, nth, local, flag, stored, zero_word, one_word, value_local, else_of, loop_of, loop_terms, continue_terms}
 use Rattle.hidden_locals.specs.Switches.{case_test, chain_of, unswitched, unswitched_all, links, default_link}

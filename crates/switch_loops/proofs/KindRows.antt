@@ -1,9 +1,9 @@
 -- What forms are for Switches, by their trees.
-use Rattle.std.proofs.Common.{◌≡◌, ℕ, suc, ◌+◌, ◌<◌, Bool, true, false, List, [], ◌∷◌, length, Vec, Global, Option, Some, None, refl, sym, ap, ◌∙◌, arith}
+use Rattle.std.proofs.Common.{◌≡◌, ℕ, suc, ◌+◌, Bool, true, false, List, Option, Some, None, refl, sym, ap, ◌∙◌, arith}
 use Rattle.std.specs.Prelude.{min, ◌||◌}
-use Rattle.std.specs.Prelude.{nat_le, ◌&&◌, if◌then◌else◌}
+use Rattle.std.specs.Prelude.{nat_le, if◌then◌else◌}
 use Rattle.asl_tree.specs.FieldItems.{FieldItem}
-use Rattle.asl_tree.specs.View.{fits, operands_as, targets_of, operated, symbol_of, form, plain_of, apply_of, buffer, body_bytes, packaged, counted, items_in}
+use Rattle.asl_tree.specs.View.{fits, operands_as, operated, symbol_of, form, apply_of, buffer, body_bytes, packaged, counted, items_in}
 use Rattle.acpi_values.specs.declared.operator.IntOp.{IntOp}
 use Rattle.acpi_values.specs.declared.operator.Plain.{Plain}
 use Rattle.acpi_values.specs.Operators.{row_of}
@@ -18,68 +18,66 @@ use Rattle.asl_tree.specs.declared.term.Term.{Term}
 use Rattle.asl_tree.specs.declared.term.Term as D
 use Rattle.asl_tree.specs.Tree.{At, Tree, Integer, String, Omitted, Use, Package, VarPackage, Method, Container', Scope, If, ElseIf, Else, While, For, Switch, Case, Default, Continue, Misshapen, Trees, no_trees, tree, count, Field, IndexField, BankField, UnitName}
 use Rattle.asl_tree.specs.View.{tree_of, row_trees, trees_of}
-use Rattle.acpi_names.specs.declared.part.Part.{Part}
-use Rattle.acpi_names.specs.Parts.{are, part_of}
 use Rattle.acpi_names.specs.Walked.{TermShape, OfForm, term_shape, shape_as, node_tree}
 use Rattle.acpi_names.specs.declared.part.Shape.{Shape}
 use Rattle.acpi_names.specs.declared.part.Shape.TheVariants as S
 use Rattle.hidden_locals.specs.Switches.{depth_all, are_crossed}
 use Rattle.hidden_locals.specs.Crossing.{have_continue}
-use Rattle.switch_loops.specs.Kinds.{flagged, part_kind, form_kind, shape_kind}
+use Rattle.switch_loops.specs.Kinds.{form_kind, shape_kind}
 use Rattle.switch_loops.specs.Measures.{capped, measured, measured_one, nothing, around}
-use Rattle.switch_loops.specs.declared.kind.Kind.{Kind}
+use Rattle.switch_loops.specs.declared.kind.TermRole.{TermRole}
 use Rattle.switch_loops.specs.declared.measure.Measure.{Measure}
 
-abbrev pub tree_kind : Tree → Kind
-tree_kind (If test body) = Kind.Block
-tree_kind (ElseIf test body) = Kind.Block
-tree_kind (Else body) = Kind.Block
-tree_kind (Container' kind at name body) = Kind.Block
-tree_kind (Scope here at name body) = Kind.Block
-tree_kind (While test body) = Kind.Loop
-tree_kind (For start test step body) = Kind.Loop
-tree_kind (Switch value cases) = Kind.Switch
-tree_kind (Case value body) = Kind.Case
-tree_kind (Default body) = Kind.Default
-tree_kind (Method at name flags body) = Kind.Method
-tree_kind Continue = Kind.Continue
-tree_kind _ = Kind.Other
+abbrev pub tree_kind : Tree → TermRole
+tree_kind (If test body) = TermRole.Block
+tree_kind (ElseIf test body) = TermRole.Block
+tree_kind (Else body) = TermRole.Block
+tree_kind (Container' kind at name body) = TermRole.Block
+tree_kind (Scope here at name body) = TermRole.Block
+tree_kind (While test body) = TermRole.Loop
+tree_kind (For start test step body) = TermRole.Loop
+tree_kind (Switch value cases) = TermRole.Switch
+tree_kind (Case value body) = TermRole.Case
+tree_kind (Default body) = TermRole.Default
+tree_kind (Method at name flags body) = TermRole.Method
+tree_kind Continue = TermRole.Continue
+tree_kind _ = TermRole.Other
 
-kind_items : (o : Option (List (FieldItem UnitName))) (made : List (FieldItem UnitName) → Tree) → ((items : List (FieldItem UnitName)) → tree_kind (made items) ≡ Kind.Other) → tree_kind (choose o Misshapen made) ≡ Kind.Other
+kind_items : (o : Option (List (FieldItem UnitName))) (made : List (FieldItem UnitName) → Tree) → ((items : List (FieldItem UnitName)) → tree_kind (made items) ≡ TermRole.Other) → tree_kind (choose o Misshapen made) ≡ TermRole.Other
 kind_items None made h = refl
 kind_items (Some items) made h = h items
 
-kind_apply : (op : Plain) (args : Trees) → tree_kind (apply_of op args) ≡ Kind.Other
+kind_apply : (op : Plain) (args : Trees) → tree_kind (apply_of op args) ≡ TermRole.Other
 kind_apply (Plain.Number IntOp.LNotEqual) args = refl
 kind_apply (Plain.Number IntOp.LLessEqual) args = refl
 kind_apply (Plain.Number IntOp.LGreaterEqual) args = refl
 kind_apply op args = refl
 
-kind_operated : (op : Plain) (args : Trees) → tree_kind (operated op args) ≡ Kind.Other
+kind_operated : (op : Plain) (args : Trees) → tree_kind (operated op args) ≡ TermRole.Other
 kind_operated (Plain.Number IntOp.LNotEqual) args = refl
 kind_operated (Plain.Number IntOp.LLessEqual) args = refl
 kind_operated (Plain.Number IntOp.LGreaterEqual) args = refl
 kind_operated op args = refl
 
-kind_symbol : (op : Plain) (args : Trees) → tree_kind (symbol_of op args) ≡ Kind.Other
+kind_symbol : (op : Plain) (args : Trees) → tree_kind (symbol_of op args) ≡ TermRole.Other
 kind_symbol op args = by_fit (fits (row_of op).operands args)
   where
-    by_fit : (c : Bool) → tree_kind (if c then operated op (operands_as (row_of op).operands args) else Misshapen) ≡ Kind.Other
+    by_fit : (c : Bool) → tree_kind (if c then operated op (operands_as (row_of op).operands args) else Misshapen) ≡ TermRole.Other
     by_fit true = kind_operated op (operands_as (row_of op).operands args)
     by_fit false = refl
 
-kind_buffer : (size : Tree) (bytes : List ℕ) → tree_kind (buffer size bytes) ≡ Kind.Other
+kind_buffer : (size : Tree) (bytes : List ℕ) → tree_kind (buffer size bytes) ≡ TermRole.Other
 kind_buffer Omitted bytes = refl
 kind_buffer size bytes = refl
 
-kind_counted : (n : ℕ) (elements : Trees) → tree_kind (counted n elements) ≡ Kind.Other
+kind_counted : (n : ℕ) (elements : Trees) → tree_kind (counted n elements) ≡ TermRole.Other
 kind_counted n elements = by_less (nat_le n 255)
   where
-    by_less : (c : Bool) → tree_kind (if c then Package n elements else VarPackage (Integer n) elements) ≡ Kind.Other
+    by_less : (c : Bool) → tree_kind (if c then Package n elements else VarPackage (Integer n) elements) ≡ TermRole.Other
     by_less true = refl
     by_less false = refl
 
-kind_packaged : (size : Tree) (elements : Trees) → tree_kind (packaged size elements) ≡ Kind.Other
+kind_packaged : (size : Tree) (elements : Trees) → tree_kind (packaged size elements) ≡ TermRole.Other
 kind_packaged Omitted elements = kind_counted (count elements) elements
 kind_packaged (Integer n) elements = kind_counted n elements
 kind_packaged size elements = refl
@@ -236,7 +234,7 @@ unfolding tree_of
 measured_term at (D.Form' op shape args shape' body) = measured_form at op (row_trees args) (row_trees body)
 measured_term at _ = refl
 
-pub measured_shape : (node : Node) (op : Op) (args body : List Node) (kind : Kind) (inner result : Measure) → OfForm op (trees_of args) (trees_of body) ≡ term_shape node.term → kind ≡ form_kind op (trees_of args) (trees_of body)
+pub measured_shape : (node : Node) (op : Op) (args body : List Node) (kind : TermRole) (inner result : Measure) → OfForm op (trees_of args) (trees_of body) ≡ term_shape node.term → kind ≡ form_kind op (trees_of args) (trees_of body)
     → inner ≡ measured (trees_of body) → result ≡ around kind inner → result ≡ measured_one (node_tree node)
 measured_shape node op args body kind inner result shape ek ei er =
     er ∙ ap (λ k. around k inner) ek ∙ ap (around (form_kind op (trees_of args) (trees_of body))) ei ∙ ap measured_by shape ∙ sym (measured_term (record { id = node.id; place = node.place }) node.term)

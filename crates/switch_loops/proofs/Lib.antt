@@ -14,5 +14,8 @@ pub mod Packs
 pub mod PutTurns
 pub mod NamedNodes
 pub mod Asked
+pub mod Keeping
+pub mod InPlace
+pub mod Findings
 pub mod Switchless
 pub mod Unneeded

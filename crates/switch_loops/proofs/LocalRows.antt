@@ -1,7 +1,7 @@
 -- The Locals that forms name, by their trees.
-use Rattle.std.proofs.Common.{◌≡◌, ℕ, suc, Bool, true, false, List, [], ◌∷◌, ◌++◌, Option, Some, None, refl, sym, ap, ◌∙◌, arith, append_assoc}
+use Rattle.std.proofs.Common.{◌≡◌, ℕ, Bool, true, false, List, [], ◌∷◌, ◌++◌, Option, Some, None, refl, sym, ap, ◌∙◌, append_assoc}
 use Rattle.std.proofs.lemmas.List.{append-nil}
-use Rattle.std.specs.Prelude.{nat_le, ◌&&◌, if◌then◌else◌}
+use Rattle.std.specs.Prelude.{nat_le, if◌then◌else◌}
 use Rattle.asl_tree.specs.FieldItems.{FieldItem}
 use Rattle.asl_tree.specs.View.{fits, operands_as, targets_of, operated, symbol_of, form, plain_of, apply_of, buffer, body_bytes, packaged, counted, items_in}
 use Rattle.acpi_values.specs.declared.operator.IntOp.{IntOp}
@@ -16,7 +16,6 @@ use Rattle.acpi_state.specs.Outcomes.{choose}
 use Rattle.acpi_values.specs.Operators.{Letter, Valued}
 use Rattle.acpi_values.specs.Operators as L
 use Rattle.asl_tree.specs.Tree.{At, Tree, Integer, String, Omitted, Use, Package, VarPackage, Misshapen, Trees, no_trees, tree, count, Field, IndexField, BankField, UnitName}
-use Rattle.acpi_names.specs.Parts.{are}
 use Rattle.acpi_names.specs.Walked.{fitting_value}
 use Rattle.acpi_names.specs.declared.part.ValueForm.TheVariants as V
 use Rattle.hidden_locals.specs.Locals.{locals, locals_all}

@@ -1,7 +1,7 @@
 -- The places of loops, by the nodes for which they are made.
-use Rattle.std.proofs.Common.{◌≡◌, ℕ, Bool, true, false, List, [], ◌∷◌, ◌++◌, length, reverse, Vec, Global, Option, Some, None, refl, sym, ap, ◌∙◌, arith, append_assoc}
+use Rattle.std.proofs.Common.{◌≡◌, Bool, true, false, List, [], ◌∷◌, ◌++◌, length, reverse, Vec, Global, Option, Some, refl, sym, ap, ◌∙◌, arith, append_assoc}
 use Rattle.std.specs.Prelude.{not, if◌then◌else◌, filter}
-use Rattle.std.proofs.lemmas.List.{reverse-append, append-nil}
+use Rattle.std.proofs.lemmas.List.{append-nil}
 use Rattle.iasl_messages.specs.declared.place.Place.{Place}
 use Rattle.asl_tree.specs.declared.term.Op.{Op}
 use Rattle.asl_tree.specs.declared.term.Control.TheVariants as Control
@@ -10,21 +10,20 @@ use Rattle.asl_tree.specs.declared.term.Term.{Term}
 use Rattle.asl_tree.specs.declared.term.Term as D
 use Rattle.asl_tree.specs.declared.term.Term.TheVariants as V
 use Rattle.asl_tree.specs.Tree.{Trees, no_trees}
-use Rattle.asl_tree.specs.View.{row_trees, trees_of}
+use Rattle.asl_tree.specs.View.{trees_of}
 use Rattle.acpi_names.specs.Parts.{are, is_form}
 use Rattle.acpi_names.specs.Walked.{TermShape, OfForm, term_shape}
 use Rattle.acpi_names.proofs.Trees.{form_rows}
 use Rattle.asl_lower.specs.Places.{has_terms, lowered_at, lowered_places}
 use Rattle.asl_lower.specs.Places as lowered
-use Rattle.asl_lower.proofs.Places.{form_lowered}
 use Rattle.hidden_locals.specs.Crossing.{have_continue}
 use Rattle.term_places.specs.Places.{holds_terms}
 use Rattle.term_places.proofs.Places.{body_row}
 use Rattle.switch_loops.specs.Kinds.{form_kind, shape_kind, is_default, default_node}
 use Rattle.switch_loops.specs.Links.{first_default}
 use Rattle.switch_loops.specs.Places.{Following, body_inside, braces, case_places, cases_places, cases_row, chain_places, default_node_places, default_places, default_row, first_default_places, form_looped, form_places, looped_at, looped_places, looped_row}
-use Rattle.switch_loops.specs.declared.kind.Kind.{Kind}
-use Rattle.switch_loops.proofs.MadeRows.{lowered_none, pushed_places}
+use Rattle.switch_loops.specs.declared.kind.TermRole.{TermRole}
+use Rattle.switch_loops.proofs.MadeRows.{lowered_none}
 
 -- ---- rows as their nodes
 
@@ -43,7 +42,7 @@ unfolding default_row first_default_places
 default_rows m D.end_of-Node = refl
 default_rows m (D.more_of-Node id place term rest) = ap (default_places (shape_kind (term_shape term)) place (braces term)) (default_rows _ rest)
 
-abbrev kind_in : TermShape → Kind
+abbrev kind_in : TermShape → TermRole
 kind_in shape = shape_kind shape
 
 abbrev continue_in : TermShape → Bool
@@ -100,6 +99,9 @@ unfolding lowered_at
 flat_lowered place (D.Form' op shape args shape' body) e = absurd (grind arith)
 flat_lowered place t e = refl
 
+pub flat_place : (inside : Bool) (place : Place) (t : Term) → is_form t ≡ false → lowered_at place t ≡ looped_at inside place t
+flat_place inside place t e = flat_lowered place t e ∙ sym (flat_at inside place t e)
+
 flat_braces : (t : Term) → is_form t ≡ false → braces t ≡ []
 unfolding braces
 flat_braces (D.Form' op shape args shape' body) e = absurd (grind arith)
@@ -107,12 +109,6 @@ flat_braces t e = refl
 
 pub other_braces : (t : Term) → ((o : Op) (v w : Vec Node Global) → t ≡ D.Form o v w → ⊥) → braces t ≡ []
 other_braces t never = flat_braces t (not_formed t never)
-
--- ---- terms that are put before others
-
-pub flat_put : (inside : Bool) (old new : List Node) (node : Node) → ((o : Op) (v w : Vec Node Global) → node.term ≡ D.Form o v w → ⊥) → new ≡ old ++ node ∷ [] → lowered_places (reverse new) ≡ looped_at inside node.place node.term ++ lowered_places (reverse old)
-flat_put inside old new node never e =
-    pushed_places old new node e ∙ ap (λ ps. ps ++ lowered_places (reverse old)) (flat_lowered node.place node.term (not_formed node.term never) ∙ sym (flat_at inside node.place node.term (not_formed node.term never)))
 
 -- ---- the terms of a list, from the last on
 
@@ -154,8 +150,8 @@ unfolding cases_places
 cases_end [] d e = refl
 cases_end (node ∷ left) d e = absurd (omega (arith, e))
 
-no_case : (k : Kind) (place : Place) (ps : List Place) (d : Following) → is_default k ≡ true → d ≡ case_places k place ps d
-no_case Kind.Case place ps d e = absurd cc
+no_case : (k : TermRole) (place : Place) (ps : List Place) (d : Following) → is_default k ≡ true → d ≡ case_places k place ps d
+no_case TermRole.Case place ps d e = absurd cc
 no_case k place ps d e = refl
 
 pub cases_kept : (nodes : List Node) (d : Following) → cases_places (filter (λ node. not (default_node node)) nodes) d ≡ cases_places nodes d
@@ -167,8 +163,8 @@ cases_kept (node ∷ nodes) d = by_default (default_node node) refl (cases_kept 
     by_default true e h = h ∙ no_case (shape_kind (term_shape node.term)) node.place (braces node.term) (cases_places nodes d) e
     by_default false e h = ap (case_places (shape_kind (term_shape node.term)) node.place (braces node.term)) h
 
-one_default : (k : Kind) (node : Node) (ps : List Place) (d : Following) (first : Option Node) → d ≡ default_node_places first → ps ≡ braces node.term → default_places k node.place ps d ≡ default_node_places (if is_default k then Some node else first)
-one_default Kind.Default node ps d first e f = ap (λ ps. Some (node.place, ps)) f
+one_default : (k : TermRole) (node : Node) (ps : List Place) (d : Following) (first : Option Node) → d ≡ default_node_places first → ps ≡ braces node.term → default_places k node.place ps d ≡ default_node_places (if is_default k then Some node else first)
+one_default TermRole.Default node ps d first e f = ap (λ ps. Some (node.place, ps)) f
 one_default k node ps d first e f = e
 
 pub first_places : (nodes : List Node) → first_default_places nodes ≡ default_node_places (first_default nodes)
@@ -178,16 +174,16 @@ first_places (node ∷ nodes) = one_default (shape_kind (term_shape node.term)) 
 
 -- ---- forms
 
-pub flat_kind : (t : Term) → is_form t ≡ false → shape_kind (term_shape t) ≡ Kind.Other
+pub flat_kind : (t : Term) → is_form t ≡ false → shape_kind (term_shape t) ≡ TermRole.Other
 flat_kind (D.Form' op shape args shape' body) e = absurd (grind arith)
 flat_kind t e = refl
 
-pub not_case : (k : Kind) (place : Place) (ps : List Place) (d : Following) → (k ≡ Kind.Case → ⊥) → d ≡ case_places k place ps d
-not_case Kind.Case place ps d never = absurd (never refl)
+pub not_case : (k : TermRole) (place : Place) (ps : List Place) (d : Following) → (k ≡ TermRole.Case → ⊥) → d ≡ case_places k place ps d
+not_case TermRole.Case place ps d never = absurd (never refl)
 not_case k place ps d never = refl
 
 pub flat_case : (t : Term) (place : Place) (d : Following) → ((o : Op) (v w : Vec Node Global) → t ≡ D.Form o v w → ⊥) → d ≡ case_places (shape_kind (term_shape t)) place (braces t) d
-flat_case t place d never = not_case (shape_kind (term_shape t)) place (braces t) d (λ e. let k : Kind.Other ≡ Kind.Case = sym (flat_kind t (not_formed t never)) ∙ e in absurd cc)
+flat_case t place d never = not_case (shape_kind (term_shape t)) place (braces t) d (λ e. let k : TermRole.Other ≡ TermRole.Case = sym (flat_kind t (not_formed t never)) ∙ e in absurd cc)
 
 pub case_placed : (t : Term) (op : Op) (args body : Vec Node Global) (place : Place) (d : Following) → t ≡ D.Form op args body
     → case_places (form_kind op (trees_of args.items) (trees_of body.items)) place (looped_places true body.items) d ≡ case_places (shape_kind (term_shape t)) place (braces t) d
@@ -202,24 +198,15 @@ pub term_braces : (t : Term) (op : Op) (args body : Vec Node Global) → t ≡ D
 term_braces t op args body e = sym (ap braces e ∙ form_braces op args body)
 
 -- a form that stays
-pub kept_kind : (k : Kind) (op : Op) (args : Trees) (inside crossed : Bool) (place : Place) (inner chain : List Place) → (k ≡ Kind.Switch → ⊥) → (k ≡ Kind.Continue → ⊥) → form_places k op args inside crossed place inner chain ≡ lowered.form_places op args place inner
-kept_kind Kind.Switch op args inside crossed place inner chain no_switch no_continue = absurd (no_switch refl)
-kept_kind Kind.Continue op args inside crossed place inner chain no_switch no_continue = absurd (no_continue refl)
+pub kept_kind : (k : TermRole) (op : Op) (args : Trees) (inside crossed : Bool) (place : Place) (inner chain : List Place) → (k ≡ TermRole.Switch → ⊥) → (k ≡ TermRole.Continue → ⊥) → form_places k op args inside crossed place inner chain ≡ lowered.form_places op args place inner
+kept_kind TermRole.Switch op args inside crossed place inner chain no_switch no_continue = absurd (no_switch refl)
+kept_kind TermRole.Continue op args inside crossed place inner chain no_switch no_continue = absurd (no_continue refl)
 kept_kind k op args inside crossed place inner chain no_switch no_continue = refl
 
 inner_if : (c : Bool) (place : Place) (xs ys : List Place) → (c ≡ true → xs ≡ ys) → place ∷ (if c then xs else []) ≡ place ∷ (if c then ys else [])
 inner_if true place xs ys h = ap (λ ps. place ∷ ps) (h refl)
 inner_if false place xs ys h = refl
 
-inner_same : (op : Op) (ts : Trees) (place : Place) (xs ys : List Place) → (has_terms op ≡ true → xs ≡ ys) → lowered.form_places op ts place xs ≡ lowered.form_places op ts place ys
+pub inner_same : (op : Op) (ts : Trees) (place : Place) (xs ys : List Place) → (has_terms op ≡ true → xs ≡ ys) → lowered.form_places op ts place xs ≡ lowered.form_places op ts place ys
 inner_same (Op.Control Control.ElseIf) ts place xs ys h = ap (λ ps. if are 1 ts then place ∷ place ∷ ps else place ∷ []) (h refl)
 inner_same op ts place xs ys h = inner_if (holds_terms op) place xs ys h
-
-pub kept_put : (inside : Bool) (op : Op) (args body made : Vec Node Global) (node : Node) (old new : List Node) → (form_kind op (trees_of args.items) (trees_of body.items) ≡ Kind.Switch → ⊥) → (form_kind op (trees_of args.items) (trees_of body.items) ≡ Kind.Continue → ⊥)
-    → node.term ≡ D.Form op args made → new ≡ old ++ node ∷ [] → (has_terms op ≡ true → lowered_places made.items ≡ looped_places (body_inside op inside) body.items)
-    → lowered_places (reverse new) ≡ form_looped inside node.place op args.items body.items ++ lowered_places (reverse old)
-kept_put inside op args body made node old new no_switch no_continue term e h =
-    pushed_places old new node e
-    ∙ ap (λ ps. ps ++ lowered_places (reverse old)) (ap (lowered_at node.place) term ∙ form_lowered node.place op args made
-    ∙ inner_same op (trees_of args.items) node.place (lowered_places made.items) (looped_places (body_inside op inside) body.items) h
-    ∙ sym (kept_kind (form_kind op (trees_of args.items) (trees_of body.items)) op (trees_of args.items) inside (have_continue (trees_of body.items)) node.place (looped_places (body_inside op inside) body.items) (chain_places (cases_places body.items (first_default_places body.items))) no_switch no_continue))

@@ -1,6 +1,5 @@
 -- The trees and the places of nodes that are made.
-use Rattle.std.proofs.Common.{◌≡◌, ℕ, Bool, true, false, List, [], ◌∷◌, ◌++◌, length, reverse, Vec, Global, Option, Some, None, refl, sym, ap, subst, ◌∙◌, arith, append_assoc}
-use Rattle.std.specs.Prelude.{nat_le, ◌&&◌, if◌then◌else◌}
+use Rattle.std.proofs.Common.{◌≡◌, ℕ, List, [], ◌∷◌, ◌++◌, reverse, Vec, Global, refl, sym, ap, ◌∙◌, append_assoc}
 use Rattle.std.proofs.lemmas.List.{append-nil, reverse-append}
 use Rattle.iasl_messages.specs.declared.place.Place.{Place}
 use Rattle.acpi_values.specs.declared.operator.IntOp.TheVariants as IntOp
@@ -15,14 +14,14 @@ use Rattle.asl_tree.specs.declared.term.Literal.TheVariants as Lit
 use Rattle.asl_tree.specs.declared.term.Node.{Node}
 use Rattle.asl_tree.specs.declared.term.Term.{Term}
 use Rattle.asl_tree.specs.declared.term.Term as D
-use Rattle.asl_tree.specs.Tree.{At, Tree, Omitted, Apply, Constant, If, Else, While, Trees, no_trees, tree}
+use Rattle.asl_tree.specs.Tree.{At, Tree, Omitted, Apply, Constant, Trees, no_trees, tree}
 use Rattle.asl_tree.specs.View.{apply_of, operands_as, form, tree_of, trees_of}
 use Rattle.acpi_names.specs.Walked.{node_tree}
 use Rattle.acpi_names.proofs.Trees.{form_tree}
-use Rattle.hidden_locals.specs.Turns.{local, stored, equal, joined, test_of, else_of, then_trees, turn_of, loop_of, zero_word, one_word}
+use Rattle.hidden_locals.specs.Turns.{local, stored, equal}
 use Rattle.asl_lower.specs.Places.{form_places, lowered_at, lowered_places}
 use Rattle.asl_lower.proofs.Places.{form_lowered}
-use Rattle.switch_loops.specs.Given.{HasValue, HaveValues}
+use Rattle.switch_loops.specs.Given.{HasValue}
 
 pub none : trees_of [] ≡ no_trees
 unfolding trees_of

@@ -10,13 +10,13 @@ use Rattle.asl_tree.specs.Tree.{Tree, Trees, no_trees, tree}
 use Rattle.asl_tree.specs.View.{trees_of}
 use Rattle.acpi_names.specs.Walked.{node_tree}
 use Rattle.acpi_names.proofs.Telling.{trees_at, no_more}
-use Rattle.hidden_locals.specs.Locals.{is_named, locals, locals_all}
+use Rattle.hidden_locals.specs.Locals.{is_named, locals_all}
 use Rattle.hidden_locals.specs.Turns.{nth, others}
-use Rattle.hidden_locals.specs.Switches.{depth_all, are_crossed, is_enough}
+use Rattle.hidden_locals.specs.Switches.{depth_all, is_enough}
 use Rattle.switch_loops.specs.Measures.{capped, measured}
 use Rattle.switch_loops.specs.declared.measure.Measure.{Measure}
 use Rattle.std.proofs.lemmas.List.{append-nil}
-use Rattle.switch_loops.specs.Reads.{marked, marked_all, none_named, is_marked, is_raw, letter_names, is_constant, operand_locals, others_of}
+use Rattle.switch_loops.specs.Reads.{marked, marked_all, none_named, is_marked, letter_names, is_constant, operand_locals, others_of}
 
 pub marked-append : (named : List Bool) (xs ys : List ℕ) → marked_all named (xs ++ ys) ≡ marked_all (marked_all named xs) ys
 marked-append named [] ys = refl
@@ -65,7 +65,9 @@ filter_step : (p q : ℕ → Bool) (x : ℕ) (xs : List ℕ) → p x ≡ q x →
 filter_step p q x xs e h = ap (λ c. if c then x ∷ filter p xs else filter p xs) e ∙ ap (λ ys. if q x then x ∷ ys else ys) h
 
 pub others_are : (ls : List ℕ) → others_of (marked_all none_named ls) ≡ others ls
-others_are ls = step 0 (1 ∷ 2 ∷ 3 ∷ 4 ∷ 5 ∷ 6 ∷ 7 ∷ []) (at 0 (omega arith) refl) (step 1 (2 ∷ 3 ∷ 4 ∷ 5 ∷ 6 ∷ 7 ∷ []) (at 1 (omega arith) refl) (step 2 (3 ∷ 4 ∷ 5 ∷ 6 ∷ 7 ∷ []) (at 2 (omega arith) refl) (step 3 (4 ∷ 5 ∷ 6 ∷ 7 ∷ []) (at 3 (omega arith) refl) (step 4 (5 ∷ 6 ∷ 7 ∷ []) (at 4 (omega arith) refl) (step 5 (6 ∷ 7 ∷ []) (at 5 (omega arith) refl) (step 6 (7 ∷ []) (at 6 (omega arith) refl) (step 7 [] (at 7 (omega arith) refl) refl)))))))
+others_are ls =
+    step 0 (1 ∷ 2 ∷ 3 ∷ 4 ∷ 5 ∷ 6 ∷ 7 ∷ []) (at 0 (omega arith) refl) (step 1 (2 ∷ 3 ∷ 4 ∷ 5 ∷ 6 ∷ 7 ∷ []) (at 1 (omega arith) refl) (step 2 (3 ∷ 4 ∷ 5 ∷ 6 ∷ 7 ∷ []) (at 2 (omega arith) refl)
+    (step 3 (4 ∷ 5 ∷ 6 ∷ 7 ∷ []) (at 3 (omega arith) refl) (step 4 (5 ∷ 6 ∷ 7 ∷ []) (at 4 (omega arith) refl) (step 5 (6 ∷ 7 ∷ []) (at 5 (omega arith) refl) (step 6 (7 ∷ []) (at 6 (omega arith) refl) (step 7 [] (at 7 (omega arith) refl) refl)))))))
   where
     step : (x : ℕ) (xs : List ℕ) → not (is_marked (marked_all none_named ls) x) ≡ not (is_named ls x) → filter (λ i. not (is_marked (marked_all none_named ls) i)) xs ≡ filter (λ i. not (is_named ls i)) xs
         → filter (λ i. not (is_marked (marked_all none_named ls) i)) (x ∷ xs) ≡ filter (λ i. not (is_named ls i)) (x ∷ xs)

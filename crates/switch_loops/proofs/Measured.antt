@@ -2,13 +2,13 @@
 use Rattle.std.proofs.Common.{◌≡◌, ◌≤◌, ◌<◌, ℕ, suc, ◌+◌, Bool, true, false, List, length, drop, get_or, refl, sym, ap, ◌∙◌, arith}
 use Rattle.std.specs.Prelude.{◌||◌, max, min}
 use Rattle.asl_tree.specs.declared.term.Node.{Node}
-use Rattle.asl_tree.specs.Tree.{Tree, Trees, no_trees, tree}
+use Rattle.asl_tree.specs.Tree.{Tree, Trees, tree}
 use Rattle.asl_tree.specs.View.{trees_of}
 use Rattle.acpi_names.specs.Walked.{node_tree}
 use Rattle.acpi_names.proofs.Telling.{trees_at, no_more}
 use Rattle.hidden_locals.specs.Crossing.{has_continue, have_continue}
 use Rattle.hidden_locals.specs.Switches.{depth, depth_all, is_crossed, are_crossed}
-use Rattle.switch_loops.specs.Measures.{capped, measured, measured_one, nothing, both}
+use Rattle.switch_loops.specs.Measures.{measured, measured_one, nothing, both}
 use Rattle.switch_loops.specs.declared.measure.Measure.{Measure}
 
 abbrev made : ℕ → Bool → Bool → Measure

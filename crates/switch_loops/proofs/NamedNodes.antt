@@ -7,12 +7,11 @@ use Rattle.asl_tree.specs.declared.term.Term.{Term}
 use Rattle.asl_tree.specs.declared.term.Term as D
 use Rattle.asl_tree.specs.declared.term.Term.TheVariants as V
 use Rattle.asl_tree.specs.Tree.{At, Trees}
-use Rattle.asl_tree.specs.View.{form, tree_of, trees_of}
+use Rattle.asl_tree.specs.View.{tree_of, trees_of}
 use Rattle.acpi_names.specs.Walked.{node_tree}
 use Rattle.acpi_names.proofs.Trees.{form_tree, call_tree}
 use Rattle.hidden_locals.specs.Locals.{locals, locals_all}
 use Rattle.switch_loops.specs.Reads.{marked, marked_all, operand_locals, form_locals, reads_of}
-use Rattle.switch_loops.specs.declared.locals.Reads.{Reads}
 use Rattle.switch_loops.proofs.LocalRows.{plain_locals, named_form}
 use Rattle.switch_loops.proofs.Marks.{marked-append}
 

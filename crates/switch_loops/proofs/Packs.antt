@@ -1,5 +1,5 @@
 -- Packages among the values of Cases, and the tests of their members.
-use Rattle.std.proofs.Common.{◌≡◌, ◌<◌, ℕ, suc, Bool, true, false, List, [], ◌∷◌, ◌++◌, length, reverse, Vec, Global, Option, Some, None, refl, sym, ap, subst, ◌∙◌, arith}
+use Rattle.std.proofs.Common.{◌≡◌, ℕ, Bool, true, false, List, [], ◌∷◌, ◌++◌, length, reverse, Vec, Global, Option, Some, None, refl, sym, ap, subst, ◌∙◌, arith}
 use Rattle.std.specs.Prelude.{nat_le, ◌&&◌, if◌then◌else◌}
 use Rattle.std.proofs.lemmas.List.{reverse-append, reverse-reverse}
 use Rattle.acpi_state.specs.Outcomes.{choose}
@@ -16,7 +16,7 @@ use Rattle.asl_tree.specs.declared.term.Node.{Node}
 use Rattle.asl_tree.specs.declared.term.Term.{Term}
 use Rattle.asl_tree.specs.declared.term.Term as D
 use Rattle.asl_tree.specs.Tree.{At, Tree, Integer, String, Omitted, Use, Apply, Package, VarPackage, Misshapen, Trees, no_trees, tree, count, Field, IndexField, BankField, UnitName}
-use Rattle.asl_tree.specs.View.{fits, operands_as, operated, symbol_of, form, apply_of, buffer, body_bytes, packaged, counted, items_in, tree_of, row_trees, trees_of}
+use Rattle.asl_tree.specs.View.{fits, operands_as, operated, symbol_of, form, apply_of, buffer, body_bytes, packaged, counted, items_in, tree_of, trees_of}
 use Rattle.acpi_names.specs.declared.part.ValueForm.{ValueForm}
 use Rattle.acpi_names.specs.declared.part.ValueForm.TheVariants as V
 use Rattle.acpi_names.specs.Parts.{are, is_form}

@@ -1,8 +1,8 @@
 -- Forms that stay, with loops in their braces.
-use Rattle.std.proofs.Common.{◌≡◌, ℕ, suc, Bool, true, false, List, [], ◌∷◌, Option, Some, None, refl, sym, ap, ◌∙◌, arith}
-use Rattle.std.specs.Prelude.{nat_le, ◌&&◌, if◌then◌else◌}
+use Rattle.std.proofs.Common.{◌≡◌, ℕ, Bool, true, false, List, Option, Some, None, refl}
+use Rattle.std.specs.Prelude.{nat_le, if◌then◌else◌}
 use Rattle.asl_tree.specs.FieldItems.{FieldItem}
-use Rattle.asl_tree.specs.View.{fits, operands_as, targets_of, operated, symbol_of, form, plain_of, apply_of, buffer, body_bytes, packaged, counted, items_in}
+use Rattle.asl_tree.specs.View.{fits, operands_as, operated, symbol_of, form, apply_of, buffer, body_bytes, packaged, counted, items_in}
 use Rattle.acpi_values.specs.declared.operator.IntOp.{IntOp}
 use Rattle.acpi_values.specs.declared.operator.Plain.{Plain}
 use Rattle.acpi_values.specs.Operators.{row_of}
@@ -15,7 +15,7 @@ use Rattle.acpi_state.specs.Outcomes.{choose}
 use Rattle.asl_tree.specs.Tree.{At, Tree, Integer, String, Omitted, Use, Package, VarPackage, Misshapen, Trees, no_trees, tree, count, Field, IndexField, BankField, UnitName}
 use Rattle.switch_loops.specs.Kinds.{form_kind}
 use Rattle.switch_loops.specs.Links.{put, in_braces}
-use Rattle.switch_loops.specs.declared.kind.Kind.{Kind}
+use Rattle.switch_loops.specs.declared.kind.TermRole.{TermRole}
 
 module _ (flag : ℕ) (values : List ℕ) (inside : Bool) where
   put_items : (o : Option (List (FieldItem UnitName))) (made : List (FieldItem UnitName) → Tree) → ((items : List (FieldItem UnitName)) → (rest : Trees) → put flag values inside (made items) rest ≡ tree (made items) rest) → (rest : Trees) → put flag values inside (choose o Misshapen made) rest ≡ tree (choose o Misshapen made) rest
@@ -57,7 +57,7 @@ module _ (flag : ℕ) (values : List ℕ) (inside : Bool) where
   put_packaged (Integer n) elements rest = put_counted n elements rest
   put_packaged size elements rest = refl
 
-  pub put_form : (at : At) (op : Op) (args body : Trees) → (form_kind op args body ≡ Kind.Switch → ⊥) → (form_kind op args body ≡ Kind.Continue → ⊥) → (rest : Trees) → put flag values inside (form at op args body) rest ≡ tree (form at op args (in_braces flag values inside op body)) rest
+  pub put_form : (at : At) (op : Op) (args body : Trees) → (form_kind op args body ≡ TermRole.Switch → ⊥) → (form_kind op args body ≡ TermRole.Continue → ⊥) → (rest : Trees) → put flag values inside (form at op args body) rest ≡ tree (form at op args (in_braces flag values inside op body)) rest
   put_form here (Op.Declaration Declaration.Name) (tree (Use at name) (tree value no_trees)) no_trees no_switch no_continue rest = refl
   put_form here (Op.Declaration Declaration.Alias) (tree (Use from source) (tree (Use at name) no_trees)) no_trees no_switch no_continue rest = refl
   put_form here (Op.Declaration Declaration.External) (tree (Use at name) (tree (Integer type) no_trees)) no_trees no_switch no_continue rest = refl

@@ -1,30 +1,27 @@
 -- Lists of terms that loops are put into, from the last term on.
-use Rattle.std.proofs.Common.{◌≡◌, ◌≤◌, ◌<◌, ℕ, zero, suc, ◌+◌, Bool, true, false, List, [], ◌∷◌, ◌++◌, length, drop, Vec, Global, Option, Some, None, refl, sym, ap, subst, ◌∙◌, arith}
+use Rattle.std.proofs.Common.{◌≡◌, ℕ, Bool, true, false, List, [], ◌∷◌, ◌++◌, length, drop, Vec, Global, Option, Some, refl, sym, ap, subst, ◌∙◌, arith}
 use Rattle.std.specs.Prelude.{not, ◌&&◌, if◌then◌else◌, filter}
 use Rattle.asl_tree.specs.declared.term.Op.{Op}
 use Rattle.asl_tree.specs.declared.term.Control.TheVariants as Control
-use Rattle.asl_tree.specs.declared.term.Declaration.TheVariants as Declaration
 use Rattle.asl_tree.specs.declared.term.Node.{Node}
 use Rattle.asl_tree.specs.declared.term.Term.{Term}
 use Rattle.asl_tree.specs.declared.term.Term as D
-use Rattle.asl_tree.specs.Tree.{At, Tree, Integer, Use, If, Else, Switch, Case, Default, Continue, Trees, no_trees, tree}
+use Rattle.asl_tree.specs.Tree.{At, Tree, If, Switch, Case, Default, Continue, Trees, no_trees, tree}
 use Rattle.asl_tree.specs.View.{form, tree_of, row_trees, trees_of}
-use Rattle.acpi_names.specs.declared.part.Part.{Part}
-use Rattle.acpi_names.specs.declared.part.Part.TheVariants as P
+use Rattle.acpi_names.specs.declared.part.NameRole.{NameRole}
+use Rattle.acpi_names.specs.declared.part.NameRole.TheVariants as P
 use Rattle.acpi_names.specs.declared.part.What.TheVariants as W
 use Rattle.acpi_names.specs.Parts.{are, is_form, part_of}
-use Rattle.acpi_names.specs.Walked.{OfForm, term_shape, node_tree}
+use Rattle.acpi_names.specs.Walked.{term_shape, node_tree}
 use Rattle.acpi_names.proofs.Trees.{are_long, form_tree, form_rows}
 use Rattle.std.proofs.lemmas.Bool.Decides.{nat_tests}
-use Rattle.std.specs.Prelude.{nat_eq}
 use Rattle.asl_lower.specs.Nests.{backwards}
-use Rattle.asl_lower.proofs.Backwards.{pushed}
-use Rattle.hidden_locals.specs.Switches.{case_test, unswitched_all, links, default_link}
+use Rattle.hidden_locals.specs.Switches.{case_test, links, default_link}
 use Rattle.hidden_locals.specs.Turns.{local, nth, else_of}
 use Rattle.switch_loops.specs.Given.{HasValue, HasCaseValue, IsGiven, AreGiven}
 use Rattle.switch_loops.specs.Kinds.{flagged, part_kind, form_kind, shape_kind, is_default, default_node}
-use Rattle.switch_loops.specs.Links.{plan_as, looped_all, put, linked, in_braces, shape_body, given_default, default_looped, first_default}
-use Rattle.switch_loops.specs.declared.kind.Kind.{Kind}
+use Rattle.switch_loops.specs.Links.{plan_as, looped_all, put, linked, shape_body, given_default, default_looped, first_default}
+use Rattle.switch_loops.specs.declared.kind.TermRole.{TermRole}
 use Rattle.switch_loops.proofs.KindRows.{tree_kind, kind_form, kind_is}
 use Rattle.switch_loops.proofs.Alike.{same_terms, left_deeper}
 use Rattle.switch_loops.proofs.LoopPlaces.{flat_kind, not_formed}
@@ -79,19 +76,19 @@ given_popped left more node e g = given_last more node (subst (λ ns. AreGiven (
 
 -- ---- forms by their kinds
 
-pub part_no_switch : (p : Part) → part_kind p ≡ Kind.Switch → ⊥
+pub part_no_switch : (p : NameRole) → part_kind p ≡ TermRole.Switch → ⊥
 part_no_switch (P.Declares n (W.Method flags) true) e = absurd cc
 part_no_switch (P.Declares n what true) e = absurd cc
 part_no_switch (P.Declares n what false) e = absurd cc
 part_no_switch p e = absurd cc
 
-part_no_case : (p : Part) → part_kind p ≡ Kind.Case → ⊥
+part_no_case : (p : NameRole) → part_kind p ≡ TermRole.Case → ⊥
 part_no_case (P.Declares n (W.Method flags) true) e = absurd cc
 part_no_case (P.Declares n what true) e = absurd cc
 part_no_case (P.Declares n what false) e = absurd cc
 part_no_case p e = absurd cc
 
-part_no_default : (p : Part) → part_kind p ≡ Kind.Default → ⊥
+part_no_default : (p : NameRole) → part_kind p ≡ TermRole.Default → ⊥
 part_no_default (P.Declares n (W.Method flags) true) e = absurd cc
 part_no_default (P.Declares n what true) e = absurd cc
 part_no_default (P.Declares n what false) e = absurd cc
@@ -100,26 +97,26 @@ part_no_default p e = absurd cc
 one_of : (n : ℕ) (args : List Node) → are n (trees_of args) ≡ true → length args ≡ n
 one_of n args e = let k = are_long n args in grind (arith, nat_tests, k, e)
 
-flag_only : (c : Bool) (k l : Kind) → flagged c k ≡ l → (l ≡ Kind.Other → ⊥) → (c ≡ true) × (k ≡ l)
+flag_only : (c : Bool) (k l : TermRole) → flagged c k ≡ l → (l ≡ TermRole.Other → ⊥) → (c ≡ true) × (k ≡ l)
 flag_only true k l e never = (refl, e)
 flag_only false k l e never = absurd (never (sym e))
 
-pub switch_is : (op : Op) (args body : List Node) → form_kind op (trees_of args) (trees_of body) ≡ Kind.Switch → (op ≡ Op.Control Control.Switch) × (length args ≡ 1)
-switch_is (Op.Control Control.Switch) args body e = (refl, one_of 1 args (flag_only (are 1 (trees_of args)) Kind.Switch Kind.Switch e (λ x. absurd cc)).0)
-switch_is (Op.Control Control.While) args body e = let k : Kind.Loop ≡ Kind.Switch = (flag_only (are 1 (trees_of args)) Kind.Loop Kind.Switch e (λ x. absurd cc)).1 in absurd cc
-switch_is (Op.Control Control.For) args body e = let k : Kind.Loop ≡ Kind.Switch = (flag_only (are 3 (trees_of args)) Kind.Loop Kind.Switch e (λ x. absurd cc)).1 in absurd cc
-switch_is (Op.Control Control.Case) args body e = let k : Kind.Case ≡ Kind.Switch = (flag_only (are 1 (trees_of args)) Kind.Case Kind.Switch e (λ x. absurd cc)).1 in absurd cc
-switch_is (Op.Control Control.Default) args body e = let k : Kind.Default ≡ Kind.Switch = (flag_only (are 0 (trees_of args)) Kind.Default Kind.Switch e (λ x. absurd cc)).1 in absurd cc
-switch_is (Op.Control Control.Continue) args body e = let k : Kind.Continue ≡ Kind.Switch = (flag_only (are 0 (trees_of args) && are 0 (trees_of body)) Kind.Continue Kind.Switch e (λ x. absurd cc)).1 in absurd cc
+pub switch_is : (op : Op) (args body : List Node) → form_kind op (trees_of args) (trees_of body) ≡ TermRole.Switch → (op ≡ Op.Control Control.Switch) × (length args ≡ 1)
+switch_is (Op.Control Control.Switch) args body e = (refl, one_of 1 args (flag_only (are 1 (trees_of args)) TermRole.Switch TermRole.Switch e (λ x. absurd cc)).0)
+switch_is (Op.Control Control.While) args body e = let k : TermRole.Loop ≡ TermRole.Switch = (flag_only (are 1 (trees_of args)) TermRole.Loop TermRole.Switch e (λ x. absurd cc)).1 in absurd cc
+switch_is (Op.Control Control.For) args body e = let k : TermRole.Loop ≡ TermRole.Switch = (flag_only (are 3 (trees_of args)) TermRole.Loop TermRole.Switch e (λ x. absurd cc)).1 in absurd cc
+switch_is (Op.Control Control.Case) args body e = let k : TermRole.Case ≡ TermRole.Switch = (flag_only (are 1 (trees_of args)) TermRole.Case TermRole.Switch e (λ x. absurd cc)).1 in absurd cc
+switch_is (Op.Control Control.Default) args body e = let k : TermRole.Default ≡ TermRole.Switch = (flag_only (are 0 (trees_of args)) TermRole.Default TermRole.Switch e (λ x. absurd cc)).1 in absurd cc
+switch_is (Op.Control Control.Continue) args body e = let k : TermRole.Continue ≡ TermRole.Switch = (flag_only (are 0 (trees_of args) && are 0 (trees_of body)) TermRole.Continue TermRole.Switch e (λ x. absurd cc)).1 in absurd cc
 switch_is op args body e = absurd (part_no_switch (part_of op (trees_of args) (trees_of body)) e)
 
-pub case_is : (op : Op) (args body : List Node) → form_kind op (trees_of args) (trees_of body) ≡ Kind.Case → (op ≡ Op.Control Control.Case) × (length args ≡ 1)
-case_is (Op.Control Control.Case) args body e = (refl, one_of 1 args (flag_only (are 1 (trees_of args)) Kind.Case Kind.Case e (λ x. absurd cc)).0)
-case_is (Op.Control Control.While) args body e = let k : Kind.Loop ≡ Kind.Case = (flag_only (are 1 (trees_of args)) Kind.Loop Kind.Case e (λ x. absurd cc)).1 in absurd cc
-case_is (Op.Control Control.For) args body e = let k : Kind.Loop ≡ Kind.Case = (flag_only (are 3 (trees_of args)) Kind.Loop Kind.Case e (λ x. absurd cc)).1 in absurd cc
-case_is (Op.Control Control.Switch) args body e = let k : Kind.Switch ≡ Kind.Case = (flag_only (are 1 (trees_of args)) Kind.Switch Kind.Case e (λ x. absurd cc)).1 in absurd cc
-case_is (Op.Control Control.Default) args body e = let k : Kind.Default ≡ Kind.Case = (flag_only (are 0 (trees_of args)) Kind.Default Kind.Case e (λ x. absurd cc)).1 in absurd cc
-case_is (Op.Control Control.Continue) args body e = let k : Kind.Continue ≡ Kind.Case = (flag_only (are 0 (trees_of args) && are 0 (trees_of body)) Kind.Continue Kind.Case e (λ x. absurd cc)).1 in absurd cc
+pub case_is : (op : Op) (args body : List Node) → form_kind op (trees_of args) (trees_of body) ≡ TermRole.Case → (op ≡ Op.Control Control.Case) × (length args ≡ 1)
+case_is (Op.Control Control.Case) args body e = (refl, one_of 1 args (flag_only (are 1 (trees_of args)) TermRole.Case TermRole.Case e (λ x. absurd cc)).0)
+case_is (Op.Control Control.While) args body e = let k : TermRole.Loop ≡ TermRole.Case = (flag_only (are 1 (trees_of args)) TermRole.Loop TermRole.Case e (λ x. absurd cc)).1 in absurd cc
+case_is (Op.Control Control.For) args body e = let k : TermRole.Loop ≡ TermRole.Case = (flag_only (are 3 (trees_of args)) TermRole.Loop TermRole.Case e (λ x. absurd cc)).1 in absurd cc
+case_is (Op.Control Control.Switch) args body e = let k : TermRole.Switch ≡ TermRole.Case = (flag_only (are 1 (trees_of args)) TermRole.Switch TermRole.Case e (λ x. absurd cc)).1 in absurd cc
+case_is (Op.Control Control.Default) args body e = let k : TermRole.Default ≡ TermRole.Case = (flag_only (are 0 (trees_of args)) TermRole.Default TermRole.Case e (λ x. absurd cc)).1 in absurd cc
+case_is (Op.Control Control.Continue) args body e = let k : TermRole.Continue ≡ TermRole.Case = (flag_only (are 0 (trees_of args) && are 0 (trees_of body)) TermRole.Continue TermRole.Case e (λ x. absurd cc)).1 in absurd cc
 case_is op args body e = absurd (part_no_case (part_of op (trees_of args) (trees_of body)) e)
 
 pub switch_form : (at : At) (op : Op) (args body : List Node) (value : Node) → op ≡ Op.Control Control.Switch → args ≡ value ∷ [] → form at op (trees_of args) (trees_of body) ≡ Switch (node_tree value) (trees_of body)
@@ -131,7 +128,7 @@ unfolding trees_of
 case_form at op args body value e f = ap (λ o. form at o (trees_of args) (trees_of body)) e ∙ ap (λ ns. form at (Op.Control Control.Case) (trees_of ns) (trees_of body)) f
 
 -- a Switch whose loop is put
-pub switch_put : (flag : ℕ) (values : List ℕ) (inside : Bool) (at : At) (op : Op) (args body : List Node) (value : Node) (new old : Trees) → form_kind op (trees_of args) (trees_of body) ≡ Kind.Switch → args ≡ value ∷ []
+pub switch_put : (flag : ℕ) (values : List ℕ) (inside : Bool) (at : At) (op : Op) (args body : List Node) (value : Node) (new old : Trees) → form_kind op (trees_of args) (trees_of body) ≡ TermRole.Switch → args ≡ value ∷ []
     → (HasValue (node_tree value) → AreGiven (trees_of body) → new ≡ put flag values inside (Switch (node_tree value) (trees_of body)) old)
     → IsGiven (form at op (trees_of args) (trees_of body)) → new ≡ put flag values inside (form at op (trees_of args) (trees_of body)) old
 switch_put flag values inside at op args body value new old k f h g =
@@ -139,24 +136,24 @@ switch_put flag values inside at op args body value new old k f h g =
     let given = subst IsGiven e g in
     h given.0 given.1 ∙ ap (λ t. put flag values inside t old) (sym e)
 
-pub continue_form : (at : At) (op : Op) (args body : Trees) → form_kind op args body ≡ Kind.Continue → form at op args body ≡ Continue
+pub continue_form : (at : At) (op : Op) (args body : Trees) → form_kind op args body ≡ TermRole.Continue → form at op args body ≡ Continue
 continue_form at op args body k = by_kind (form at op args body) (kind_form at op args body ∙ k)
   where
-    by_kind : (t : Tree) → tree_kind t ≡ Kind.Continue → t ≡ Continue
+    by_kind : (t : Tree) → tree_kind t ≡ TermRole.Continue → t ≡ Continue
     by_kind Continue e = refl
     by_kind t e = absurd cc
 
 -- ---- Cases
 
-other_linked : (flag : ℕ) (values : List ℕ) (t : Tree) (d : Option Trees) → (tree_kind t ≡ Kind.Case → ⊥) → linked flag values t d ≡ d
+other_linked : (flag : ℕ) (values : List ℕ) (t : Tree) (d : Option Trees) → (tree_kind t ≡ TermRole.Case → ⊥) → linked flag values t d ≡ d
 other_linked flag values (Case value body) d never = absurd (never refl)
 other_linked flag values t d never = refl
 
-pub form_unlinked : (flag : ℕ) (values : List ℕ) (at : At) (op : Op) (args body : Trees) (d : Option Trees) → (form_kind op args body ≡ Kind.Case → ⊥) → d ≡ linked flag values (form at op args body) d
+pub form_unlinked : (flag : ℕ) (values : List ℕ) (at : At) (op : Op) (args body : Trees) (d : Option Trees) → (form_kind op args body ≡ TermRole.Case → ⊥) → d ≡ linked flag values (form at op args body) d
 form_unlinked flag values at op args body d never = sym (other_linked flag values (form at op args body) d (λ e. never (sym (kind_form at op args body) ∙ e)))
 
 -- the link of a Case
-pub case_linked : (flag : ℕ) (values : List ℕ) (at : At) (op : Op) (args body : List Node) (value : Node) (test made : Tree) (inner link : Trees) (f : Option Trees) → form_kind op (trees_of args) (trees_of body) ≡ Kind.Case → args ≡ value ∷ []
+pub case_linked : (flag : ℕ) (values : List ℕ) (at : At) (op : Op) (args body : List Node) (value : Node) (test made : Tree) (inner link : Trees) (f : Option Trees) → form_kind op (trees_of args) (trees_of body) ≡ TermRole.Case → args ≡ value ∷ []
     → (HasCaseValue (node_tree value) → test ≡ case_test (local (nth values 0)) (node_tree value)) → (AreGiven (trees_of body) → inner ≡ looped_all flag (drop 1 values) true (trees_of body)) → made ≡ If test inner → link ≡ tree made (else_of f)
     → IsGiven (form at op (trees_of args) (trees_of body)) → Some link ≡ linked flag values (form at op (trees_of args) (trees_of body)) f
 case_linked flag values at op args body value test made inner link f k e ht hi hm hl g =
@@ -207,28 +204,29 @@ links_are flag values [] d = refl
 links_are flag values (node ∷ nodes) d =
     by_default (default_node node) refl (links_are flag values nodes d) ∙ sym (links_step flag values (node_tree node) (trees_of nodes) d)
   where
-    by_default : (c : Bool) → default_node node ≡ c → link_all flag values (filter (λ node. not (default_node node)) nodes) d ≡ links (plan_as flag values) 1 (trees_of nodes) d → link_all flag values (if not c then node ∷ filter (λ node. not (default_node node)) nodes else filter (λ node. not (default_node node)) nodes) d ≡ linked flag values (node_tree node) (links (plan_as flag values) 1 (trees_of nodes) d)
+    by_default : (c : Bool) → default_node node ≡ c → link_all flag values (filter (λ node. not (default_node node)) nodes) d ≡ links (plan_as flag values) 1 (trees_of nodes) d
+        → link_all flag values (if not c then node ∷ filter (λ node. not (default_node node)) nodes else filter (λ node. not (default_node node)) nodes) d ≡ linked flag values (node_tree node) (links (plan_as flag values) 1 (trees_of nodes) d)
     by_default true e h = h ∙ sym (default_unlinked flag values (node_tree node) (links (plan_as flag values) 1 (trees_of nodes) d) (ap is_default (node_kind node) ∙ e))
     by_default false e h = ap (linked flag values (node_tree node)) h
 
-part_unlike : (p : Part) → is_default (part_kind p) ≡ true → ⊥
+part_unlike : (p : NameRole) → is_default (part_kind p) ≡ true → ⊥
 part_unlike (P.Declares n (W.Method flags) true) e = absurd cc
 part_unlike (P.Declares n what true) e = absurd cc
 part_unlike (P.Declares n what false) e = absurd cc
 part_unlike p e = absurd cc
 
-flag_unlike : (c : Bool) (k : Kind) → is_default k ≡ false → is_default (flagged c k) ≡ true → ⊥
+flag_unlike : (c : Bool) (k : TermRole) → is_default k ≡ false → is_default (flagged c k) ≡ true → ⊥
 flag_unlike true k f e = absurd cc
 flag_unlike false k f e = absurd cc
 
 default_form : (at : At) (op : Op) (args body : Trees) → is_default (form_kind op args body) ≡ true → form at op args body ≡ Default body
 default_form at (Op.Control Control.Default) no_trees body e = refl
 default_form at (Op.Control Control.Default) (tree t ts) body e = absurd cc
-default_form at (Op.Control Control.While) args body e = absurd (flag_unlike (are 1 args) Kind.Loop refl e)
-default_form at (Op.Control Control.For) args body e = absurd (flag_unlike (are 3 args) Kind.Loop refl e)
-default_form at (Op.Control Control.Switch) args body e = absurd (flag_unlike (are 1 args) Kind.Switch refl e)
-default_form at (Op.Control Control.Case) args body e = absurd (flag_unlike (are 1 args) Kind.Case refl e)
-default_form at (Op.Control Control.Continue) args body e = absurd (flag_unlike (are 0 args && are 0 body) Kind.Continue refl e)
+default_form at (Op.Control Control.While) args body e = absurd (flag_unlike (are 1 args) TermRole.Loop refl e)
+default_form at (Op.Control Control.For) args body e = absurd (flag_unlike (are 3 args) TermRole.Loop refl e)
+default_form at (Op.Control Control.Switch) args body e = absurd (flag_unlike (are 1 args) TermRole.Switch refl e)
+default_form at (Op.Control Control.Case) args body e = absurd (flag_unlike (are 1 args) TermRole.Case refl e)
+default_form at (Op.Control Control.Continue) args body e = absurd (flag_unlike (are 0 args && are 0 body) TermRole.Continue refl e)
 default_form at op args body e = absurd (part_unlike (part_of op args body) e)
 
 default_term : (at : At) (t : Term) → is_default (shape_kind (term_shape t)) ≡ true → tree_of at t ≡ Default (shape_body (term_shape t))
@@ -296,13 +294,9 @@ flat_body flag values t made never e = ap trees_of e ∙ none ∙ ap (looped_all
 
 pub flat_unlinked : (flag : ℕ) (values : List ℕ) (node : Node) (d : Option Trees) → ((o : Op) (v w : Vec Node Global) → node.term ≡ D.Form o v w → ⊥) → d ≡ linked flag values (node_tree node) d
 flat_unlinked flag values node d never =
-    sym (other_linked flag values (node_tree node) d (λ e. let k : Kind.Other ≡ Kind.Case = sym (flat_kind node.term (not_formed node.term never)) ∙ sym (node_kind node) ∙ e in absurd cc))
+    sym (other_linked flag values (node_tree node) d (λ e. let k : TermRole.Other ≡ TermRole.Case = sym (flat_kind node.term (not_formed node.term never)) ∙ sym (node_kind node) ∙ e in absurd cc))
 
-flat_kept : (flag : ℕ) (values : List ℕ) (inside : Bool) (at : At) (t : Term) (rest : Trees) → is_form t ≡ false → put flag values inside (tree_of at t) rest ≡ tree (tree_of at t) rest
+pub flat_kept : (flag : ℕ) (values : List ℕ) (inside : Bool) (at : At) (t : Term) (rest : Trees) → is_form t ≡ false → put flag values inside (tree_of at t) rest ≡ tree (tree_of at t) rest
 unfolding tree_of
 flat_kept flag values inside at (D.Form' op shape args shape' body) rest e = absurd (grind arith)
 flat_kept flag values inside at t rest e = refl
-
-pub flat_pushed : (flag : ℕ) (values : List ℕ) (inside : Bool) (old new : List Node) (node : Node) → ((o : Op) (v w : Vec Node Global) → node.term ≡ D.Form o v w → ⊥) → new ≡ old ++ node ∷ [] → backwards new ≡ put flag values inside (node_tree node) (backwards old)
-flat_pushed flag values inside old new node never e =
-    pushed old new node e ∙ sym (flat_kept flag values inside (record { id = node.id; place = node.place }) node.term (backwards old) (not_formed node.term never))

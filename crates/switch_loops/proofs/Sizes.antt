@@ -1,5 +1,5 @@
 -- The sizes of what stands in a Switch.
-use Rattle.std.proofs.Common.{◌≡◌, ◌≤◌, ◌+◌, ℕ, suc, Bool, true, false, List, [], ◌∷◌, Option, Some, None, refl, sym, subst, arith}
+use Rattle.std.proofs.Common.{◌≡◌, ◌≤◌, ◌+◌, ℕ, suc, Bool, true, false, List, [], ◌∷◌, Option, Some, None, sym, subst, arith}
 use Rattle.std.specs.Prelude.{not, if◌then◌else◌, filter}
 use Rattle.asl_tree.specs.declared.term.Node.{Node}
 use Rattle.acpi_names.specs.Parts.{nodes_size, term_size}

@@ -5,3 +5,6 @@ pub mod Given
 pub mod Places
 pub mod Links
 pub mod Switched
+pub mod Braces
+pub mod Kept
+pub mod Found

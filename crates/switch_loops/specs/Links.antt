@@ -1,12 +1,10 @@
 -- Switches as loops, one term after another, with the Locals that are left.
 use Rattle.std.specs.Prelude.{ℕ, Bool, true, false, if◌then◌else◌, List, [], ◌∷◌, drop, Option, Some, None}
-use Rattle.acpi_values.specs.declared.operator.Plain.{Plain}
-use Rattle.iasl_messages.specs.declared.place.Place.{Place}
 use Rattle.asl_tree.specs.declared.term.Control.TheVariants as Control
 use Rattle.asl_tree.specs.declared.term.Declaration.TheVariants as Declaration
 use Rattle.asl_tree.specs.declared.term.Op.{Op}
 use Rattle.asl_tree.specs.declared.term.Node.{Node}
-use Rattle.asl_tree.specs.Tree.{Tree, If, Else, Switch, Case, Continue, Trees, no_trees, tree}
+use Rattle.asl_tree.specs.Tree.{Tree, If, Switch, Case, Continue, Trees, no_trees, tree}
 use Rattle.asl_tree.specs.View.{trees_of}
 use Rattle.asl_lower.specs.Places.{lowered_places}
 use Rattle.acpi_names.specs.Walked.{TermShape, OfForm, term_shape}

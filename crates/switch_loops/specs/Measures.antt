@@ -1,9 +1,9 @@
 -- How deep Switches nest in terms, and whether a Continue leaves one of them.
-use Rattle.std.specs.Prelude.{ℕ, min, max, ◌+◌, Bool, true, false, ◌||◌}
+use Rattle.std.specs.Prelude.{ℕ, min, max, ◌+◌, true, false, ◌||◌}
 use Rattle.asl_tree.specs.Tree.{Tree, Trees}
 use Rattle.hidden_locals.specs.Crossing.{has_continue, have_continue}
 use Rattle.hidden_locals.specs.Switches.{depth, depth_all, is_crossed, are_crossed}
-use Rattle.switch_loops.specs.declared.kind.Kind.{Kind}
+use Rattle.switch_loops.specs.declared.kind.TermRole.{TermRole}
 use Rattle.switch_loops.specs.declared.measure.Measure.{Measure}
 
 -- nine levels stand for all that are more, since there are eight Locals
@@ -24,12 +24,12 @@ abbrev pub both : Measure → Measure → Measure
 both m n = record { levels = max m.levels n.levels; crossed = m.crossed || n.crossed; continues = m.continues || n.continues }
 
 -- a term by what stands in its braces
-abbrev pub around : Kind → Measure → Measure
-around Kind.Block m = m
-around Kind.Loop m = record { levels = m.levels; crossed = m.crossed; continues = false }
-around Kind.Switch m = record { levels = min m.levels 8 + 1; crossed = m.continues || m.crossed; continues = m.continues }
-around Kind.Case m = m
-around Kind.Default m = m
-around Kind.Method m = nothing
-around Kind.Continue m = record { levels = 0; crossed = false; continues = true }
-around Kind.Other m = nothing
+abbrev pub around : TermRole → Measure → Measure
+around TermRole.Block m = m
+around TermRole.Loop m = record { levels = m.levels; crossed = m.crossed; continues = false }
+around TermRole.Switch m = record { levels = min m.levels 8 + 1; crossed = m.continues || m.crossed; continues = m.continues }
+around TermRole.Case m = m
+around TermRole.Default m = m
+around TermRole.Method m = nothing
+around TermRole.Continue m = record { levels = 0; crossed = false; continues = true }
+around TermRole.Other m = nothing

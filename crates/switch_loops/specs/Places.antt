@@ -15,7 +15,7 @@ use Rattle.hidden_locals.specs.Crossing.{have_continue}
 use Rattle.asl_tree.specs.Tree.{Trees}
 use Rattle.asl_lower.specs.Places as lowered
 use Rattle.switch_loops.specs.Kinds.{form_kind, shape_kind}
-use Rattle.switch_loops.specs.declared.kind.Kind.{Kind}
+use Rattle.switch_loops.specs.declared.kind.TermRole.{TermRole}
 
 -- what follows the test of a Case: the place of the next Case or of the Default, and the places of the terms for it
 abbrev pub Following : Type 0
@@ -51,17 +51,17 @@ body_inside op inside = inside
 
 -- a form: `inner` are the places of the terms in its braces, and `chain` those of the tests of its Cases; one that
 -- stays has the places that it is lowered to, an ElseIf its own twice
-abbrev pub form_places : Kind → Op → Trees → (inside crossed : Bool) → Place → List Place → List Place → List Place
-form_places Kind.Switch op args inside crossed place inner chain = loop_places crossed inside place (turn_places place chain)
-form_places Kind.Continue op args inside crossed place inner chain = continue_places inside place
+abbrev pub form_places : TermRole → Op → Trees → (inside crossed : Bool) → Place → List Place → List Place → List Place
+form_places TermRole.Switch op args inside crossed place inner chain = loop_places crossed inside place (turn_places place chain)
+form_places TermRole.Continue op args inside crossed place inner chain = continue_places inside place
 form_places kind op args inside crossed place inner chain = lowered.form_places op args place inner
 
-abbrev pub case_places : Kind → Place → List Place → Following → Following
-case_places Kind.Case place inner following = Some (place, (place ∷ inner) ++ else_places following)
+abbrev pub case_places : TermRole → Place → List Place → Following → Following
+case_places TermRole.Case place inner following = Some (place, (place ∷ inner) ++ else_places following)
 case_places kind place inner following = following
 
-abbrev pub default_places : Kind → Place → List Place → Following → Following
-default_places Kind.Default place inner later = Some (place, inner)
+abbrev pub default_places : TermRole → Place → List Place → Following → Following
+default_places TermRole.Default place inner later = Some (place, inner)
 default_places kind place inner later = later
 
 unfoldable mutual

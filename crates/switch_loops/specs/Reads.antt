@@ -7,8 +7,8 @@ use Rattle.asl_operators.specs.Letters.{letter_as}
 use Rattle.asl_operators.specs.declared.letter.Letter.{Letter}
 use Rattle.asl_tree.specs.declared.term.Op.{Op}
 use Rattle.asl_tree.specs.Tree.{Tree, Trees, no_trees, tree}
-use Rattle.acpi_names.specs.declared.part.Part.{Part}
-use Rattle.acpi_names.specs.declared.part.Part.TheVariants as P
+use Rattle.acpi_names.specs.declared.part.NameRole.{NameRole}
+use Rattle.acpi_names.specs.declared.part.NameRole.TheVariants as P
 use Rattle.acpi_names.specs.declared.part.ValueForm.{ValueForm}
 use Rattle.acpi_names.specs.declared.part.ValueForm.TheVariants as V
 use Rattle.acpi_names.specs.Parts.{is_item_list, part_of}
@@ -42,7 +42,7 @@ value_reads (V.Operator op) = Reads.Operands op
 value_reads V.Package = Reads.All
 value_reads _ = Reads.Arguments
 
-abbrev pub part_reads : Part → Op → Trees → Trees → Reads
+abbrev pub part_reads : NameRole → Op → Trees → Trees → Reads
 part_reads P.Nothing op args body = value_reads (value_form_of op args body)
 part_reads (P.Declares n what opens) op args body = if opens then Reads.All else Reads.Arguments
 part_reads P.Alias op args body = Reads.Nothing

@@ -5,12 +5,12 @@ ghost use Rattle.acpi_names.specs.Walked.{term_shape};
 ghost use Rattle.asl_tree.specs.View.{trees_of};
 ghost use Rattle.switch_loops.specs.Kinds.{flagged, part_kind as kind_of_part, form_kind as kind_of_form, shape_kind};
 
-use acpi_names::part::{Part, Shape, What, part_for, shape_of};
+use acpi_names::part::{NameRole, Shape, What, part_for, shape_of};
 use asl_tree::term::{Control, Node, Op, Term};
 
 /// What a term is for the Switches of its method.
 #[derive(Clone, Copy, PartialEq, Eq, Debug)]
-pub enum Kind {
+pub enum TermRole {
     /// Terms of the same method stand in its braces.
     Block,
     Loop,
@@ -22,10 +22,10 @@ pub enum Kind {
     Other,
 }
 
-fn flag(holds: bool, kind: Kind) -> Kind
+fn flag(holds: bool, kind: TermRole) -> TermRole
     ensures { result ≡ flagged holds kind }
 {
-    if holds { kind } else { Kind::Other }
+    if holds { kind } else { TermRole::Other }
 }
 
 #[tactic(auto, using(acpi_names::proofs::Trees::are_long))]
@@ -35,46 +35,47 @@ fn are(nodes: &[Node], count: usize) -> bool
     nodes.len() == count
 }
 
-fn part_kind(part: Part) -> Kind
+fn part_kind(part: NameRole) -> TermRole
     ensures { result ≡ kind_of_part part }
 {
     match part {
-        Part::Declares {
+        NameRole::Declares {
             name: _,
             what: What::Method(_),
             opens: true,
-        } => Kind::Method,
-        Part::Declares {
+        } => TermRole::Method,
+        NameRole::Declares {
             name: _,
             what: _,
             opens: true,
-        } => Kind::Block,
-        Part::Scope | Part::Within => Kind::Block,
-        _ => Kind::Other,
+        } => TermRole::Block,
+        NameRole::Scope | NameRole::Within => TermRole::Block,
+        _ => TermRole::Other,
     }
 }
 
 /// What a form is.
-pub(crate) fn form_kind(op: Op, args: &[Node], body: &[Node]) -> Kind
+pub(crate) fn form_kind(op: Op, args: &[Node], body: &[Node]) -> TermRole
     ensures { result ≡ kind_of_form op (trees_of args.now) (trees_of body.now) }
 {
     match op {
-        Op::Control(Control::While) => flag(are(args, 1), Kind::Loop),
-        Op::Control(Control::For) => flag(are(args, 3), Kind::Loop),
-        Op::Control(Control::Switch) => flag(are(args, 1), Kind::Switch),
-        Op::Control(Control::Case) => flag(are(args, 1), Kind::Case),
-        Op::Control(Control::Default) => flag(are(args, 0), Kind::Default),
-        Op::Control(Control::Continue) => flag(are(args, 0) && are(body, 0), Kind::Continue),
-        _ => part_kind(part_for(op, args, body)),
+        Op::Control(Control::While) => flag(are(args, 1), TermRole::Loop),
+        Op::Control(Control::For) => flag(are(args, 3), TermRole::Loop),
+        Op::Control(Control::Switch) => flag(are(args, 1), TermRole::Switch),
+        Op::Control(Control::Case) => flag(are(args, 1), TermRole::Case),
+        Op::Control(Control::Default) => flag(are(args, 0), TermRole::Default),
+        Op::Control(Control::Continue) => flag(are(args, 0) && are(body, 0), TermRole::Continue),
+        Op::Declaration(_) | Op::Control(_) => part_kind(part_for(op, args, body)),
+        _ => TermRole::Other,
     }
 }
 
 /// What a term is.
-pub fn kind_of(term: &Term) -> Kind
+pub fn kind_of(term: &Term) -> TermRole
     ensures { result ≡ shape_kind (term_shape term.now) }
 {
     match shape_of(term) {
         Shape::Form(op, args, body) => form_kind(op, args, body),
-        _ => Kind::Other,
+        _ => TermRole::Other,
     }
 }

@@ -1,7 +1,10 @@
 //! Switches as loops of one turn, which keep the Switch's value in a Local that their method leaves free.
 #![tactic(auto)]
 
+mod braces;
 pub mod enough;
+mod found;
+mod kept;
 pub mod kind;
 pub mod locals;
 pub mod loops;

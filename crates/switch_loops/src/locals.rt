@@ -8,7 +8,7 @@ ghost use Rattle.hidden_locals.specs.Locals.{locals, locals_all};
 ghost use Rattle.switch_loops.specs.Reads.{form_locals, letter_names, operand_locals, marked, marked_all, none_named, is_marked, others_of};
 ghost use Rattle.switch_loops.specs.Reads.{is_constant as constant_letter, reads_of as form_reads, value_reads as reads_of_value};
 
-use acpi_names::part::{Part, ValueForm, part_for, value_form_for};
+use acpi_names::part::{NameRole, ValueForm, part_for, value_form_for};
 use acpi_values::operator::Plain;
 use asl_operators::letter::Letter;
 use asl_operators::rows::letters;
@@ -139,19 +139,29 @@ fn value_reads(form: ValueForm) -> Reads
     }
 }
 
-fn reads_of(op: Op, args: &[Node], body: &[Node]) -> Reads
+// What of a declaration or of a statement may name Locals.
+fn statement_reads(op: Op, args: &[Node], body: &[Node]) -> Reads
     ensures { result ≡ form_reads op (trees_of args.now) (trees_of body.now) }
 {
     match part_for(op, args, body) {
-        Part::Nothing => value_reads(value_form_for(op, args, body)),
-        Part::Declares { opens: true, .. } | Part::Scope | Part::Within => Reads::All,
-        Part::Declares { .. } | Part::Returns | Part::Prints => Reads::Arguments,
-        Part::Units(_) => if are_items(body) {
+        NameRole::Nothing => value_reads(value_form_for(op, args, body)),
+        NameRole::Declares { opens: true, .. } | NameRole::Scope | NameRole::Within => Reads::All,
+        NameRole::Declares { .. } | NameRole::Returns | NameRole::Prints => Reads::Arguments,
+        NameRole::Units(_) => if are_items(body) {
             Reads::Arguments
         } else {
             Reads::Nothing
         },
-        Part::Alias | Part::External { .. } => Reads::Nothing,
+        NameRole::Alias | NameRole::External { .. } => Reads::Nothing,
+    }
+}
+
+fn reads_of(op: Op, args: &[Node], body: &[Node]) -> Reads
+    ensures { result ≡ form_reads op (trees_of args.now) (trees_of body.now) }
+{
+    match op {
+        Op::Declaration(_) | Op::Control(_) => statement_reads(op, args, body),
+        _ => value_reads(value_form_for(op, args, body)),
     }
 }
 

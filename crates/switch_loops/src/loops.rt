@@ -1,29 +1,35 @@
 //! A program whose Switches are loops: its Locals keep the values of Switches.
-ghost use Rattle.std.specs.Prelude.{◌≡◌, ◌++◌, ◌∷◌, [], false, true, nat_eq, if◌then◌else◌, length, reverse, drop, IfOk, OnOk};
+ghost use Rattle.std.specs.Prelude.{◌≡◌, ◌++◌, ◌∷◌, ◌<◌, [], Bool, false, true, nat_eq, if◌then◌else◌, length, reverse, drop, IfOk, OnOk};
+ghost use Rattle.acpi_names.specs.Parts.{nodes_size, term_size};
 ghost use Rattle.acpi_names.specs.Walked.{node_tree, term_shape};
 ghost use Rattle.asl_lower.specs.Nests.{backwards};
-ghost use Rattle.asl_lower.specs.Places.{has_terms, lowered_places};
-ghost use Rattle.asl_tree.specs.Tree.{Switch};
+ghost use Rattle.asl_lower.specs.Places.{has_terms, lowered_at, lowered_places};
+ghost use Rattle.asl_tree.specs.Tree.{Switch, Trees, tree};
 ghost use Rattle.asl_tree.specs.View.{form, trees_of};
 ghost use Rattle.hidden_locals.specs.Locals.{locals_all};
 ghost use Rattle.hidden_locals.specs.Switches.{default_link, links, without_switches};
 ghost use Rattle.switch_loops.specs.Given.{AreGiven, IsGiven, HasValue};
+ghost use Rattle.switch_loops.specs.Kept.{all_kept, is_kept};
 ghost use Rattle.switch_loops.specs.Kinds.{form_kind as form_kind_of, shape_kind};
 ghost use Rattle.switch_loops.specs.Links.{given_default, in_braces as trees_in_braces, link_places, link_trees, linked, looped_all};
 ghost use Rattle.switch_loops.specs.Links.{plan_as, put as put_tree, default_looped, shape_body};
 ghost use Rattle.switch_loops.specs.Reads.{marked_all, none_named, others_of};
 ghost use Rattle.switch_loops.specs.Places.{body_inside, cases_places, case_places, braces as braces_places, default_node_places};
-ghost use Rattle.switch_loops.specs.Places.{first_default_places, form_looped, looped_at, looped_places, switch_looped};
+ghost use Rattle.switch_loops.specs.Places.{first_default_places, looped_at, looped_places, switch_looped};
+ghost use Rattle.switch_loops.specs.declared.kind.TermRole.TheVariants as K;
 
-use crate::kind::{Kind, form_kind};
+use crate::braces::{Braces, braces_of, stays_inside};
+use crate::found::{Found, found_in};
+use crate::kept::all_keep;
+use crate::kind::{TermRole, form_kind, kind_of};
 use crate::locals::named_in;
 use crate::made::{Link, Origin, case_test, choice, put_continue, put_turn, turn, when};
 use crate::measure::measure_all;
 use crate::spare::{later, local_at};
 use crate::split::split_cases;
-use crate::switched::has_switch;
-use asl_tree::term::{Control, Declaration, Node, Op, Term};
+use asl_tree::term::{Node, Op, Term};
 use std::alloc::{AllocError, Global};
+use std::mem::replace;
 
 // The node of a list of one.
 fn only(nodes: Vec<Node>) -> Node
@@ -46,26 +52,156 @@ fn left_to(alloc: Global, levels: usize, terms: &[Node]) -> Result<Vec<u8>, Allo
     Ok(free)
 }
 
+// The value of a Switch, and what stands in its braces.
+fn parts(alloc: Global, node: Node) -> (Node, Vec<Node>)
+    requires { shape_kind (term_shape node.term) ≡ K.Switch }
+    ensures tree { node_tree node ≡ Switch (node_tree result.0) (trees_of result.1.items) }
+    ensures places { (inside : Bool) → looped_at inside node.place node.term ≡ switch_looped inside node.place result.1.items }
+    ensures size { nodes_size result.1.items < term_size node.term }
+{
+    let Node { id, place, term } = node;
+    match term {
+        Term::Form { op: _, args, body } => (only(args), body),
+        term => (Node { id, place, term }, Vec::new(alloc)),
+    }
+}
+
 /// The terms of a method, or of a block, in which a loop of one turn stands for each Switch. The Locals for it are those that the
 /// terms do not name; each method has its own.
-#[cycle(loops)]
 pub fn loops(alloc: Global, terms: Vec<Node>) -> Result<Vec<Node>, AllocError>
     ensures trees { IfOk result (λ made. AreGiven (trees_of terms.items) → trees_of made.items ≡ without_switches (trees_of terms.items)) }
     ensures places { IfOk result (λ made. lowered_places made.items ≡ looped_places false terms.items) }
 {
-    if !has_switch(&terms) {
-        return Ok(terms);
-    }
-    let levels = measure_all(&terms).levels;
-    let free = left_to(alloc, levels, &terms)?;
-    let flag = local_at(&free, levels);
-    let made = loops_in(alloc, flag, &free, false, terms)?;
+    let mut made = terms;
+    loops_of(alloc, &mut made)?;
     Ok(made)
 }
 
-// The terms of a list; `inside` says whether a Switch is around them in the same loop.
+// The terms of a method, or of a block. The Locals are looked for only where a Switch stands in them outside methods.
+#[cycle(loops)]
+fn loops_of(alloc: Global, terms: &mut Vec<Node>) -> Result<(), AllocError>
+    ensures trees { OnOk result (AreGiven (trees_of terms.old.items) →
+        trees_of terms.new.items ≡ without_switches (trees_of terms.old.items)) }
+    ensures places { OnOk result (lowered_places terms.new.items ≡ looped_places false terms.old.items) }
+{
+    match found_in(terms) {
+        Found::Nothing => Ok(()),
+        Found::Methods => {
+            loops_in(alloc, 0, &[], false, terms)?;
+            Ok(())
+        }
+        Found::Switch => {
+            let levels = measure_all(terms).levels;
+            let free = left_to(alloc, levels, terms)?;
+            let flag = local_at(&free, levels);
+            loops_in(alloc, flag, &free, false, terms)?;
+            Ok(())
+        }
+    }
+}
+
+// The terms of a list; `inside` says whether a Switch is around them in the same loop. A list each of whose terms keeps its place
+// stays where it is.
 #[cycle(loops)]
 fn loops_in(
+    alloc: Global,
+    flag: u8,
+    values: &[u8],
+    inside: bool,
+    terms: &mut Vec<Node>,
+) -> Result<(), AllocError>
+    ensures trees { OnOk result (AreGiven (trees_of terms.old.items) →
+        trees_of terms.new.items ≡ looped_all flag values.now inside (trees_of terms.old.items)) }
+    ensures places { OnOk result (lowered_places terms.new.items ≡ looped_places inside terms.old.items) }
+{
+    if all_keep(inside, terms) {
+        loops_within(alloc, flag, values, inside, terms)?;
+        return Ok(());
+    }
+    let left = replace(terms, Vec::new(alloc));
+    let made = loops_for(alloc, flag, values, inside, left)?;
+    *terms = made;
+    Ok(())
+}
+
+// Terms that keep their places.
+#[cycle(loops)]
+fn loops_within(
+    alloc: Global,
+    flag: u8,
+    values: &[u8],
+    inside: bool,
+    terms: &mut Vec<Node>,
+) -> Result<(), AllocError>
+    requires { all_kept inside terms.old.items ≡ true }
+    ensures trees { OnOk result (AreGiven (trees_of terms.old.items) →
+        trees_of terms.new.items ≡ looped_all flag values.now inside (trees_of terms.old.items)) }
+    ensures places { OnOk result (lowered_places terms.new.items ≡ looped_places inside terms.old.items) }
+{
+    for node in terms.iter_mut() {
+        loops_at(alloc, flag, values, inside, node)?;
+    }
+    Ok(())
+}
+
+// A term that keeps its place.
+#[cycle(loops)]
+fn loops_at(
+    alloc: Global,
+    flag: u8,
+    values: &[u8],
+    inside: bool,
+    node: &mut Node,
+) -> Result<(), AllocError>
+    requires { is_kept inside (shape_kind (term_shape node.old.term)) ≡ true }
+    ensures tree { OnOk result (IsGiven (node_tree node.old) → (rest : Trees) →
+        tree (node_tree node.new) rest ≡ put_tree flag values.now inside (node_tree node.old) rest) }
+    ensures places { OnOk result (lowered_at node.new.place node.new.term ≡ looped_at inside node.old.place node.old.term) }
+{
+    match &mut node.term {
+        Term::Form {
+            op,
+            args: _args,
+            body,
+        } => {
+            in_braces(alloc, flag, values, inside, *op, body)?;
+            Ok(())
+        }
+        _ => Ok(()),
+    }
+}
+
+// What stands in the braces of a form that keeps its place.
+#[cycle(loops)]
+fn in_braces(
+    alloc: Global,
+    flag: u8,
+    values: &[u8],
+    inside: bool,
+    op: Op,
+    body: &mut Vec<Node>,
+) -> Result<(), AllocError>
+    ensures trees { OnOk result ((has_terms op ≡ true → AreGiven (trees_of body.old.items)) →
+        trees_of body.new.items ≡ trees_in_braces flag values.now inside op (trees_of body.old.items)) }
+    ensures places { OnOk result (has_terms op ≡ true →
+        lowered_places body.new.items ≡ looped_places (body_inside op inside) body.old.items) }
+{
+    match braces_of(op) {
+        Braces::Terms => {
+            loops_in(alloc, flag, values, stays_inside(op, inside), body)?;
+            Ok(())
+        }
+        Braces::Method => {
+            loops_of(alloc, body)?;
+            Ok(())
+        }
+        _ => Ok(()),
+    }
+}
+
+// What stands for the terms of a list.
+#[cycle(loops)]
+fn loops_for(
     alloc: Global,
     flag: u8,
     values: &[u8],
@@ -77,7 +213,7 @@ fn loops_in(
     ensures places { IfOk result (λ made. lowered_places made.items ≡ looped_places inside terms.items) }
 {
     let mut left = terms;
-    let mut made = Vec::new(alloc);
+    let mut made = Vec::with_capacity(alloc, left.len())?;
     while let Some(node) = left.pop() {
         put(alloc, flag, values, inside, &mut made, node)?;
     }
@@ -100,94 +236,26 @@ fn put(
     ensures places { OnOk result (lowered_places (reverse made.new.items) ≡ looped_at inside node.place node.term
         ++ lowered_places (reverse made.old.items)) }
 {
-    let Node { id, place, term } = node;
-    match term {
-        Term::Form { op, args, body } => {
-            let origin = Origin { id, place };
-            put_form(alloc, flag, values, inside, made, origin, op, args, body)?;
+    let origin = Origin {
+        id: node.id,
+        place: node.place,
+    };
+    match kind_of(&node.term) {
+        TermRole::Switch => {
+            let (value, cases) = parts(alloc, node);
+            put_switch(alloc, flag, values, inside, made, origin, value, cases)?;
             Ok(())
         }
-        term => {
-            made.push(Node { id, place, term })?;
-            Ok(())
-        }
-    }
-}
-
-#[cycle(loops)]
-fn put_form(
-    alloc: Global,
-    flag: u8,
-    values: &[u8],
-    inside: bool,
-    made: &mut Vec<Node>,
-    origin: Origin,
-    op: Op,
-    args: Vec<Node>,
-    body: Vec<Node>,
-) -> Result<(), AllocError>
-    ensures trees { OnOk result (IsGiven (form (record { id = origin.id; place = origin.place }) op (trees_of args.items) (trees_of body.items))
-        → backwards made.new.items ≡ put_tree flag values.now inside
-        (form (record { id = origin.id; place = origin.place }) op (trees_of args.items) (trees_of body.items)) (backwards made.old.items)) }
-    ensures places { OnOk result (lowered_places (reverse made.new.items) ≡ form_looped inside origin.place op args.items body.items
-        ++ lowered_places (reverse made.old.items)) }
-{
-    match form_kind(op, &args, &body) {
-        Kind::Switch => {
-            put_switch(alloc, flag, values, inside, made, origin, only(args), body)?;
-            Ok(())
-        }
-        Kind::Continue => {
+        TermRole::Continue => {
             put_continue(alloc, origin, flag, inside, made)?;
             Ok(())
         }
         _ => {
-            let body = in_braces(alloc, flag, values, inside, op, body)?;
-            made.push(Node {
-                id: origin.id,
-                place: origin.place,
-                term: Term::Form { op, args, body },
-            })?;
+            let mut node = node;
+            loops_at(alloc, flag, values, inside, &mut node)?;
+            made.push(node)?;
             Ok(())
         }
-    }
-}
-
-// What stands in the braces of a form that stays.
-#[cycle(loops)]
-fn in_braces(
-    alloc: Global,
-    flag: u8,
-    values: &[u8],
-    inside: bool,
-    op: Op,
-    body: Vec<Node>,
-) -> Result<Vec<Node>, AllocError>
-    ensures trees { IfOk result (λ made. (has_terms op ≡ true → AreGiven (trees_of body.items)) →
-        trees_of made.items ≡ trees_in_braces flag values.now inside op (trees_of body.items)) }
-    ensures places { IfOk result (λ made. has_terms op ≡ true → lowered_places made.items ≡ looped_places (body_inside op inside) body.items) }
-{
-    match op {
-        Op::Declaration(Declaration::Method) => {
-            let made = loops(alloc, body)?;
-            Ok(made)
-        }
-        Op::Control(Control::While) => {
-            let made = loops_in(alloc, flag, values, false, body)?;
-            Ok(made)
-        }
-        Op::Declaration(
-            Declaration::Device
-            | Declaration::ThermalZone
-            | Declaration::PowerResource
-            | Declaration::Processor
-            | Declaration::Scope,
-        )
-        | Op::Control(Control::If | Control::ElseIf | Control::Else) => {
-            let made = loops_in(alloc, flag, values, inside, body)?;
-            Ok(made)
-        }
-        _ => Ok(body),
     }
 }
 
@@ -273,7 +341,8 @@ fn terms_of(alloc: Global, flag: u8, values: &[u8], term: Term) -> Result<Vec<No
             args: _args,
             body,
         } => {
-            let made = loops_in(alloc, flag, later(values), true, body)?;
+            let mut made = body;
+            loops_in(alloc, flag, later(values), true, &mut made)?;
             Ok(made)
         }
         _ => Ok(Vec::new(alloc)),
@@ -324,10 +393,11 @@ fn form_before(
         origin.place (looped_places true body.items) (link_places following)) }
 {
     match form_kind(op, &args, &body) {
-        Kind::Case => {
+        TermRole::Case => {
             let test = case_test(alloc, origin, local_at(values, 0), only(args))?;
-            let body = loops_in(alloc, flag, later(values), true, body)?;
-            let test = when(alloc, origin, test, body)?;
+            let mut made = body;
+            loops_in(alloc, flag, later(values), true, &mut made)?;
+            let test = when(alloc, origin, test, made)?;
             let terms = choice(alloc, test, following)?;
             Ok(Some(Link { origin, terms }))
         }

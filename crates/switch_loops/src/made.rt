@@ -247,7 +247,8 @@ pub(crate) fn choice(
     following: Option<Link>,
 ) -> Result<Vec<Node>, AllocError>
     ensures trees { IfOk result (λ made. trees_of made.items ≡ tree (node_tree test) (else_of (link_trees following))) }
-    ensures places { IfOk result (λ made. lowered_places made.items ≡ lowered_at test.place test.term ++ else_places (link_places following)) }
+    ensures places { IfOk result (λ made. lowered_places made.items ≡ lowered_at test.place test.term
+        ++ else_places (link_places following)) }
 {
     let mut made = one(alloc, test)?;
     match following {

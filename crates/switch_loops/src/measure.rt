@@ -4,7 +4,7 @@ ghost use Rattle.acpi_names.specs.Walked.{node_tree};
 ghost use Rattle.asl_tree.specs.View.{trees_of};
 ghost use Rattle.switch_loops.specs.Measures.{nothing as no_measure, both, around as measure_around, measured, measured_one};
 
-use crate::kind::{Kind, form_kind};
+use crate::kind::{TermRole, form_kind};
 use acpi_names::part::{Shape, shape_of};
 use asl_tree::term::Node;
 
@@ -38,37 +38,37 @@ fn beside(first: Measure, second: Measure) -> Measure
 }
 
 // The measure of a term by that of what stands in its braces.
-fn around(kind: Kind, inner: Measure) -> Measure
+fn around(kind: TermRole, inner: Measure) -> Measure
     ensures { result ≡ measure_around kind inner }
 {
     match kind {
-        Kind::Block | Kind::Case | Kind::Default => inner,
-        Kind::Loop => Measure {
+        TermRole::Block | TermRole::Case | TermRole::Default => inner,
+        TermRole::Loop => Measure {
             levels: inner.levels,
             crossed: inner.crossed,
             continues: false,
         },
-        Kind::Switch => Measure {
+        TermRole::Switch => Measure {
             levels: inner.levels.min(8) + 1,
             crossed: inner.continues || inner.crossed,
             continues: inner.continues,
         },
-        Kind::Continue => Measure {
+        TermRole::Continue => Measure {
             levels: 0,
             crossed: false,
             continues: true,
         },
-        Kind::Method | Kind::Other => nothing(),
+        TermRole::Method | TermRole::Other => nothing(),
     }
 }
 
 // The measure of a term by what stands in its braces, which only some kinds ask for.
 #[cycle(measure)]
-fn measure_within(kind: Kind, body: &[Node]) -> Measure
+fn measure_within(kind: TermRole, body: &[Node]) -> Measure
     ensures { result ≡ measure_around kind (measured (trees_of body.now)) }
 {
     match kind {
-        Kind::Method | Kind::Other => nothing(),
+        TermRole::Method | TermRole::Other => nothing(),
         kind => around(kind, measure_all(body)),
     }
 }

@@ -5,7 +5,7 @@ ghost use Rattle.acpi_names.specs.Walked.{term_shape};
 ghost use Rattle.switch_loops.specs.Kinds.{default_node, is_default as default_kind, shape_kind};
 ghost use Rattle.switch_loops.specs.Links.{first_default};
 
-use crate::kind::{Kind, kind_of};
+use crate::kind::{TermRole, kind_of};
 use asl_tree::term::Node;
 use std::alloc::{AllocError, Global};
 
@@ -19,7 +19,7 @@ pub(crate) struct Split {
 fn is_default(node: &Node) -> bool
     ensures { result ≡ default_node node.now }
 {
-    matches!(kind_of(&node.term), Kind::Default)
+    matches!(kind_of(&node.term), TermRole::Default)
 }
 
 // The one of two Defaults that stands first.

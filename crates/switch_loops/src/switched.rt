@@ -4,7 +4,8 @@ ghost use Rattle.switch_loops.specs.Switched.{is_switch as is_switch_op, switche
 
 use asl_tree::term::{Control, Node, Op, Term};
 
-fn is_switch(op: Op) -> bool
+/// Whether an operator is that of a Switch.
+pub fn is_switch(op: Op) -> bool
     ensures { result ≡ is_switch_op op }
 {
     matches!(op, Op::Control(Control::Switch))

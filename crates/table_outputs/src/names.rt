@@ -99,7 +99,8 @@ fn first_in_use<'a>(
     names: &[&'a String],
 ) -> Result<Option<&'a String>, AllocError>
     ensures { IfOk result
-        (λ found. option_map (λ name. string_bytes name.now) found ≡ first_in_use files.now (map (λ name. string_bytes name.now) names.now)) }
+        (λ found. option_map (λ name. string_bytes name.now) found
+        ≡ first_in_use files.now (map (λ name. string_bytes name.now) names.now)) }
 {
     let mut noted = noted_files(alloc, files)?;
     let mut found = None;

@@ -307,7 +307,8 @@ fn due_of_outputs<'a>(
 ) -> Result<Due<'a>, AllocError>
     requires { HoldsTexts (λ b. kind_of b) (λ b. pieces b) (λ b. finished b) names table backends.now.items }
     ensures due { IfOk result
-        (λ due. answer_of due ≡ record { status = 0; text = text; due = map name_and_bytes earlier.entry.items ++ files_under names table }) }
+        (λ due. answer_of due
+        ≡ record { status = 0; text = text; due = map name_and_bytes earlier.entry.items ++ files_under names table }) }
     ensures settled { IfOk result IsSettled }
 {
     // the process ends behind the files, so nobody needs the room of the pieces

@@ -1,5 +1,6 @@
 mod of_acpi_values;
 mod of_aml_code;
+mod of_aml_sizes;
 mod of_aml_writer;
 mod of_asl_fold;
 mod of_field_layout;

@@ -8,9 +8,10 @@ use Rattle.asl_tree.specs.declared.term.Term.{Term}
 use Rattle.asl_tree.specs.declared.term.Term as D
 use Rattle.asl_shape.specs.Plans.{plan_of, plans_of}
 use Rattle.asl_shape.proofs.Plans.{plan_form, plan_call}
+use Rattle.asl_shape.proofs.Terms.{integer_term, word_term, text_term, debug_term, name_term}
 use Rattle.asl_numbers.specs.Numbers.{inside, nodes}
-use Rattle.name_entries.specs.declared.kind.Kind.{Kind as Named}
-use Rattle.type_checks.specs.declared.kind.Kind.{Kind}
+use Rattle.name_entries.specs.declared.kind.ObjectType.{ObjectType as Named}
+use Rattle.type_checks.specs.declared.kind.ValueKind.{ValueKind}
 use Rattle.type_checks.specs.Kinds.{any_data, leaf_kinds, kinds_of, kinds_all}
 use Rattle.type_checks.proofs.Terms.{by_term}
 
@@ -30,7 +31,7 @@ leaf_is names in_place node t not_form =
     (λ e. refl) (λ e. refl) (λ p e. refl) (λ s n e. refl) (λ n e. refl) (λ n e. refl) (λ a b c e. refl)
     (λ p v e. ap (leaf_kinds in_place (names node)) (plan_call p v) ∙ sym (ap (kinds_of names in_place node) (plan_call p v))) (λ o v w e. absurd (not_form o v w e))
 
-module _ (names : ℕ → Named) (any : List Kind) where
+module _ (names : ℕ → Named) (any : List ValueKind) where
   pub kinds_there : (first : ℕ) (ns : List Node) (i : ℕ) (node : Node) → i < length ns → node ≡ get_or ns i node
       → get_or (kinds_all names first (plans_of ns)) i any ≡ kinds_of names false (first + nodes (plans_of (take i ns))) (plan_of node.term)
   unfolding plans_of
@@ -49,3 +50,5 @@ module _ (names : ℕ → Named) (any : List Kind) where
   kinds_past first [] (suc i) le = refl
   kinds_past first (n ∷ ns) zero le = absurd (omega (arith, le))
   kinds_past first (n ∷ ns) (suc i) le = kinds_past (suc (first + inside (plan_of n.term))) ns i (omega (arith, le))
+
+pub ruleset leaf_rules = (integer_term, word_term, text_term, debug_term, name_term, any_leaf)

@@ -4,3 +4,4 @@ pub mod Terms
 pub mod Walks
 pub mod Fitting
 pub mod Listing
+pub mod Absent

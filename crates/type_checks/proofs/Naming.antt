@@ -11,8 +11,8 @@ use Rattle.acpi_names.specs.Errors.{Whole, final}
 use Rattle.acpi_names.specs.Paths.{path_with}
 use Rattle.name_entries.specs.Entries.{described_by, end_kind, end_arity}
 use Rattle.name_entries.specs.Placed.{Places, place_at}
-use Rattle.name_entries.specs.declared.kind.Kind.{Kind as Named}
-use Rattle.name_entries.specs.declared.kind.Kind.TheVariants as N
+use Rattle.name_entries.specs.declared.kind.ObjectType.{ObjectType as Named}
+use Rattle.name_entries.specs.declared.kind.ObjectType.TheVariants as N
 use Rattle.type_checks.specs.Names.{kind_known, kind_said}
 
 -- what is known of a path is the kind in what is said of it

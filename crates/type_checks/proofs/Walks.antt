@@ -8,7 +8,7 @@ use Rattle.asl_tree.specs.declared.term.Term.{Term}
 use Rattle.asl_tree.specs.declared.term.Term as D
 use Rattle.asl_shape.specs.Plans.{no_plans, plan, plan_of, plans_of}
 use Rattle.asl_numbers.specs.Numbers.{inside, nodes}
-use Rattle.name_entries.specs.declared.kind.Kind.{Kind as Named}
+use Rattle.name_entries.specs.declared.kind.ObjectType.{ObjectType as Named}
 use Rattle.type_checks.specs.Kinds.{wanted_of}
 use Rattle.type_checks.specs.Types.{argument_errors, errors_inside, errors_of}
 use Rattle.type_checks.proofs.Terms.{call_is, form_is, inside_form, of_leaves, plans_at, no_more, all_left, count_at, none_left}

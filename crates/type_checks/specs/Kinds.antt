@@ -16,17 +16,17 @@ use Rattle.asl_tree.specs.declared.term.Symbolic.TheVariants as Symbolic
 use Rattle.asl_tree.specs.Symbols.{compound_operator}
 use Rattle.asl_shape.specs.Plans.{Plan, an_integer, a_text, a_word, debug, a_name, a_form, Plans, no_plans, plan}
 use Rattle.asl_numbers.specs.Numbers.{inside}
-use Rattle.name_entries.specs.declared.kind.Kind.{Kind as Named}
-use Rattle.name_entries.specs.declared.kind.Kind.TheVariants as N
-use Rattle.type_checks.specs.declared.kind.Kind.{Kind}
-use Rattle.type_checks.specs.declared.kind.Kind.TheVariants as K
+use Rattle.name_entries.specs.declared.kind.ObjectType.{ObjectType as Named}
+use Rattle.name_entries.specs.declared.kind.ObjectType.TheVariants as N
+use Rattle.type_checks.specs.declared.kind.ValueKind.{ValueKind}
+use Rattle.type_checks.specs.declared.kind.ValueKind.TheVariants as K
 use Rattle.type_checks.specs.declared.kind.Wanted.{Wanted}
 use Rattle.type_checks.specs.declared.kind.Wanted.TheVariants as W
 
 -- ---- what arguments take
 
 -- whether an argument takes a kind; each takes a Reference
-abbrev pub takes : Wanted → Kind → Bool
+abbrev pub takes : Wanted → ValueKind → Bool
 takes W.Anything kind = true
 takes wanted K.Reference = true
 takes W.Data K.Integer = true
@@ -113,11 +113,11 @@ wanted_of (Some op) place = form_argument op place
 
 -- ---- what expressions have
 
-abbrev pub any_data : List Kind
+abbrev pub any_data : List ValueKind
 any_data = K.Integer ∷ K.String ∷ K.Buffer ∷ K.Package ∷ K.Reference ∷ []
 
 -- what stands where a name leads: data may change its kind, and so may an object of another table of which no type is said
-abbrev pub object_kinds : Named → List Kind
+abbrev pub object_kinds : Named → List ValueKind
 object_kinds N.Data = any_data
 object_kinds N.Unknown = any_data
 object_kinds N.Integer = K.Integer ∷ []
@@ -137,12 +137,12 @@ object_kinds N.ThermalZone = K.ThermalZone ∷ []
 object_kinds N.Container = K.Container ∷ []
 
 -- a name that leads to a method calls it, except in a place
-abbrev pub name_kinds : Bool → Named → List Kind
+abbrev pub name_kinds : Bool → Named → List ValueKind
 name_kinds false N.Method = any_data
 name_kinds in_place object = object_kinds object
 
 -- what an operator gives; what gives no value stands in no expression
-abbrev pub plain_kinds : Plain → List Kind
+abbrev pub plain_kinds : Plain → List ValueKind
 plain_kinds (Plain.Number op) = K.Integer ∷ []
 plain_kinds (Plain.Data DataOp.Increment) = K.Integer ∷ []
 plain_kinds (Plain.Data DataOp.Decrement) = K.Integer ∷ []
@@ -165,7 +165,7 @@ plain_kinds (Plain.Event EventOp.Revision) = K.Integer ∷ []
 plain_kinds op = any_data
 
 -- what a form gives that gives no argument on
-abbrev pub form_kinds : Op → List Kind
+abbrev pub form_kinds : Op → List ValueKind
 form_kinds (Op.Plain op) = plain_kinds op
 form_kinds (Op.Symbolic (Symbolic.Operator op)) = plain_kinds op
 form_kinds (Op.Symbolic (Symbolic.AssignBy op)) = plain_kinds (compound_operator op)
@@ -184,11 +184,11 @@ given_on (Op.Symbolic Symbolic.Assign) = Some 1
 given_on op = None
 
 -- what a form gives whose arguments have these kinds
-abbrev pub given : Op → List (List Kind) → List Kind
+abbrev pub given : Op → List (List ValueKind) → List ValueKind
 given op arguments = choose (given_on op) (form_kinds op) (λ place. get_or arguments place any_data)
 
 -- the kinds of what has no arguments, in a place or as a value; a name leads to this. A Local, an Arg and a call may give any data
-abbrev pub leaf_kinds : Bool → Named → Plan → List Kind
+abbrev pub leaf_kinds : Bool → Named → Plan → List ValueKind
 leaf_kinds in_place object (an_integer number) = K.Integer ∷ []
 leaf_kinds in_place object (a_word word) = K.Integer ∷ []
 leaf_kinds in_place object (a_text bytes) = K.String ∷ []
@@ -200,12 +200,12 @@ leaf_kinds in_place object p = any_data
 module _ (names : ℕ → Named) where
   abbrev mutual
     -- the kinds of the expression at a node, in a place or as a value
-    pub kinds_of : Bool → ℕ → Plan → List Kind
+    pub kinds_of : Bool → ℕ → Plan → List ValueKind
     kinds_of in_place node (a_form op args body) = given op (kinds_all (suc node) args)
     kinds_of in_place node p = leaf_kinds in_place (names node) p
 
     -- those of each of some values, whose first stands at a node
-    pub kinds_all : ℕ → Plans → List (List Kind)
+    pub kinds_all : ℕ → Plans → List (List ValueKind)
     kinds_all node no_plans = []
     kinds_all node (plan place p ps) = kinds_of false node p ∷ kinds_all (suc (node + inside p)) ps
 

@@ -6,8 +6,8 @@ use Rattle.asl_tree.specs.Tree.{Trees}
 use Rattle.asl_meaning.specs.Declarations.{is_named}
 use Rattle.acpi_names.specs.Errors.{Whole, final}
 use Rattle.name_entries.specs.declared.description.Description.{Description}
-use Rattle.name_entries.specs.declared.kind.Kind.{Kind as Named}
-use Rattle.name_entries.specs.declared.kind.Kind.TheVariants as N
+use Rattle.name_entries.specs.declared.kind.ObjectType.{ObjectType as Named}
+use Rattle.name_entries.specs.declared.kind.ObjectType.TheVariants as N
 use Rattle.name_entries.specs.Entries.{described, end_kind}
 use Rattle.name_entries.specs.Uses.{denoted_in}
 

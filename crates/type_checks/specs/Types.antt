@@ -8,14 +8,14 @@ use Rattle.asl_tree.specs.declared.term.Op.{Op}
 use Rattle.asl_shape.specs.Plans.{Plan, a_call, a_form, Plans, no_plans, plan}
 use Rattle.asl_shape.specs.Shapes.{fault_at}
 use Rattle.asl_numbers.specs.Numbers.{inside, nodes}
-use Rattle.name_entries.specs.declared.kind.Kind.{Kind as Named}
-use Rattle.type_checks.specs.declared.kind.Kind.{Kind}
+use Rattle.name_entries.specs.declared.kind.ObjectType.{ObjectType as Named}
+use Rattle.type_checks.specs.declared.kind.ValueKind.{ValueKind}
 use Rattle.type_checks.specs.declared.kind.Wanted.{Wanted}
 use Rattle.type_checks.specs.Kinds.{takes, is_place, wanted_of, kinds_of}
 use Rattle.type_checks.specs.Names.{named}
 
 -- whether what an argument takes and what it can have are some kind in common
-abbrev pub fits : Wanted → List Kind → Bool
+abbrev pub fits : Wanted → List ValueKind → Bool
 fits wants kinds = list_any (takes wants) kinds
 
 abbrev pub unless : Bool → Place → List Message

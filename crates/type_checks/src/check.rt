@@ -10,7 +10,7 @@ ghost use Rattle.type_checks.specs.Names.{listed};
 ghost use Rattle.type_checks.specs.Types as spec;
 
 use crate::kind::{
-    Kind, Wanted, any_data, form_kinds, given_on, is_place, name_kinds, takes_one, wanted_of,
+    ValueKind, Wanted, any_data, form_kinds, given_on, is_place, name_kinds, takes_one, wanted_of,
 };
 use crate::names::all_named;
 use asl_tree::term::{Node, Op, Term};
@@ -18,7 +18,7 @@ use iasl_messages::message::{Message, Messages};
 use iasl_messages::number::WRONG_TYPE;
 use iasl_messages::place::Place;
 use iasl_ports::list::Text;
-use name_entries::kind::Kind as Named;
+use name_entries::kind::ObjectType as Named;
 use name_kinds::known::Known;
 use std::alloc::{AllocError, Global};
 
@@ -82,15 +82,15 @@ fn named(names: &[Named], node: u32) -> Named
 }
 
 // The kinds of what has no arguments; a name leads to this.
-#[tactic(auto, using(asl_shape::proofs::Terms::integer_term, asl_shape::proofs::Terms::word_term, asl_shape::proofs::Terms::text_term, asl_shape::proofs::Terms::debug_term, asl_shape::proofs::Terms::name_term, crate::proofs::Fitting::any_leaf))]
-fn leaf_kinds(in_place: bool, object: Named, term: &Term) -> &'static [Kind]
+#[tactic(auto, using(crate::proofs::Fitting::leaf_rules))]
+fn leaf_kinds(in_place: bool, object: Named, term: &Term) -> &'static [ValueKind]
     ensures { result.now ≡ kinds_of_leaf in_place object (plan_of term.now) }
 {
     match term {
-        Term::Integer(_) => &[Kind::Integer],
-        Term::Word(_) => &[Kind::Integer],
-        Term::Text(_) => &[Kind::String],
-        Term::Debug => &[Kind::Debug],
+        Term::Integer(_) => &[ValueKind::Integer],
+        Term::Word(_) => &[ValueKind::Integer],
+        Term::Text(_) => &[ValueKind::String],
+        Term::Debug => &[ValueKind::Debug],
         Term::Name(_) => name_kinds(in_place, object),
         _ => any_data(),
     }
@@ -145,7 +145,8 @@ fn argument_fits(
     args: &[Node],
     place: usize,
 ) -> Result<bool, AllocError>
-    ensures fits { IfOk result (λ b. b ≡ spec.fits wants (get_or (kinds_all (listed names.now) first (plans_of args.now)) place any_kinds)) }
+    ensures fits { IfOk result
+        (λ b. b ≡ spec.fits wants (get_or (kinds_all (listed names.now) first (plans_of args.now)) place any_kinds)) }
     ensures full { IfErr result (λ _. 2 ^ 32 ≤ first + node_count (plans_of args.now)) }
 {
     if place >= args.len() {
@@ -184,7 +185,8 @@ fn argument_errors(
     number: u32,
     node: &Node,
 ) -> Result<(), AllocError>
-    ensures { OnOk result (out.new ≡ out.old ++ spec.argument_errors (listed names.now) wants number node.now.place (plan_of node.now.term)) }
+    ensures { OnOk result
+        (out.new ≡ out.old ++ spec.argument_errors (listed names.now) wants number node.now.place (plan_of node.now.term)) }
 {
     let fit = fits(names, wants, is_place(wants), number, &node.term)?;
     tell_unless(alloc, out, fit, node.place)?;

@@ -9,11 +9,11 @@ use acpi_values::operator::{DataOp, EventOp, IntOp, Plain};
 use asl_operators::letter::Letter;
 use asl_operators::rows::letters;
 use asl_tree::term::{Compound, Control, Declaration, Op, Special, Symbolic};
-use name_entries::kind::Kind as Named;
+use name_entries::kind::ObjectType as Named;
 
 /// A kind of a value, or of what stands where a name leads.
 #[derive(Clone, Copy, PartialEq, Eq, Debug)]
-pub enum Kind {
+pub enum ValueKind {
     Integer,
     String,
     Buffer,
@@ -48,31 +48,34 @@ pub enum Wanted {
 }
 
 /// Whether an argument takes a kind.
-pub fn takes(wanted: Wanted, kind: Kind) -> bool
+pub fn takes(wanted: Wanted, kind: ValueKind) -> bool
     ensures { result ≡ spec.takes wanted kind }
 {
     match wanted {
         Wanted::Anything => true,
         Wanted::Data => matches!(
             kind,
-            Kind::Reference | Kind::Integer | Kind::String | Kind::Buffer
+            ValueKind::Reference | ValueKind::Integer | ValueKind::String | ValueKind::Buffer
         ),
-        Wanted::Buffer => matches!(kind, Kind::Reference | Kind::Buffer),
-        Wanted::Text => matches!(kind, Kind::Reference | Kind::String | Kind::Buffer),
+        Wanted::Buffer => matches!(kind, ValueKind::Reference | ValueKind::Buffer),
+        Wanted::Text => matches!(
+            kind,
+            ValueKind::Reference | ValueKind::String | ValueKind::Buffer
+        ),
         Wanted::Elements => matches!(
             kind,
-            Kind::Reference | Kind::String | Kind::Buffer | Kind::Package
+            ValueKind::Reference | ValueKind::String | ValueKind::Buffer | ValueKind::Package
         ),
-        Wanted::Package => matches!(kind, Kind::Reference | Kind::Package),
+        Wanted::Package => matches!(kind, ValueKind::Reference | ValueKind::Package),
         Wanted::Notified => matches!(
             kind,
-            Kind::Reference | Kind::Device | Kind::Processor | Kind::ThermalZone
+            ValueKind::Reference | ValueKind::Device | ValueKind::Processor | ValueKind::ThermalZone
         ),
     }
 }
 
 /// Whether an argument takes one of some kinds.
-pub fn takes_one(wanted: Wanted, kinds: &[Kind]) -> bool
+pub fn takes_one(wanted: Wanted, kinds: &[ValueKind]) -> bool
     ensures { result ≡ list_any (spec.takes wanted) kinds.now }
 {
     kinds.iter().any(|kind| takes(wanted, *kind))
@@ -227,43 +230,43 @@ pub fn wanted_of(asker: Option<Op>, place: usize) -> Wanted
 }
 
 /// The kinds of data.
-pub fn any_data() -> &'static [Kind]
+pub fn any_data() -> &'static [ValueKind]
     ensures { result.now ≡ spec.any_data }
 {
     &[
-        Kind::Integer,
-        Kind::String,
-        Kind::Buffer,
-        Kind::Package,
-        Kind::Reference,
+        ValueKind::Integer,
+        ValueKind::String,
+        ValueKind::Buffer,
+        ValueKind::Package,
+        ValueKind::Reference,
     ]
 }
 
 // The kinds of what stands where a name leads.
-fn object_kinds(object: Named) -> &'static [Kind]
+fn object_kinds(object: Named) -> &'static [ValueKind]
     ensures { result.now ≡ spec.object_kinds object }
 {
     match object {
         Named::Data | Named::Unknown => any_data(),
-        Named::Integer => &[Kind::Integer],
-        Named::String => &[Kind::String],
-        Named::Buffer => &[Kind::Buffer],
-        Named::Package => &[Kind::Package],
-        Named::FieldUnit | Named::BufferField => &[Kind::Integer, Kind::Buffer],
-        Named::Device => &[Kind::Device],
-        Named::Event => &[Kind::Event],
-        Named::Method => &[Kind::Method],
-        Named::Mutex => &[Kind::Mutex],
-        Named::Region => &[Kind::Region],
-        Named::PowerResource => &[Kind::PowerResource],
-        Named::Processor => &[Kind::Processor],
-        Named::ThermalZone => &[Kind::ThermalZone],
-        Named::Container => &[Kind::Container],
+        Named::Integer => &[ValueKind::Integer],
+        Named::String => &[ValueKind::String],
+        Named::Buffer => &[ValueKind::Buffer],
+        Named::Package => &[ValueKind::Package],
+        Named::FieldUnit | Named::BufferField => &[ValueKind::Integer, ValueKind::Buffer],
+        Named::Device => &[ValueKind::Device],
+        Named::Event => &[ValueKind::Event],
+        Named::Method => &[ValueKind::Method],
+        Named::Mutex => &[ValueKind::Mutex],
+        Named::Region => &[ValueKind::Region],
+        Named::PowerResource => &[ValueKind::PowerResource],
+        Named::Processor => &[ValueKind::Processor],
+        Named::ThermalZone => &[ValueKind::ThermalZone],
+        Named::Container => &[ValueKind::Container],
     }
 }
 
 /// The kinds of a name, by what stands where it leads. A method is called, except in a place.
-pub fn name_kinds(in_place: bool, object: Named) -> &'static [Kind]
+pub fn name_kinds(in_place: bool, object: Named) -> &'static [ValueKind]
     ensures { result.now ≡ spec.name_kinds in_place object }
 {
     match object {
@@ -272,7 +275,7 @@ pub fn name_kinds(in_place: bool, object: Named) -> &'static [Kind]
     }
 }
 
-fn data_kinds(op: DataOp) -> &'static [Kind]
+fn data_kinds(op: DataOp) -> &'static [ValueKind]
     ensures { result.now ≡ spec.plain_kinds (P.Data op) }
 {
     match op {
@@ -281,41 +284,41 @@ fn data_kinds(op: DataOp) -> &'static [Kind]
         | DataOp::ToInteger
         | DataOp::SizeOf
         | DataOp::ObjectType
-        | DataOp::Match => &[Kind::Integer],
-        DataOp::Concatenate => &[Kind::Buffer, Kind::String],
-        DataOp::ConcatenateResTemplate | DataOp::ToBuffer => &[Kind::Buffer],
-        DataOp::ToDecimalString | DataOp::ToHexString | DataOp::ToString => &[Kind::String],
-        DataOp::Index | DataOp::RefOf => &[Kind::Reference],
+        | DataOp::Match => &[ValueKind::Integer],
+        DataOp::Concatenate => &[ValueKind::Buffer, ValueKind::String],
+        DataOp::ConcatenateResTemplate | DataOp::ToBuffer => &[ValueKind::Buffer],
+        DataOp::ToDecimalString | DataOp::ToHexString | DataOp::ToString => &[ValueKind::String],
+        DataOp::Index | DataOp::RefOf => &[ValueKind::Reference],
         DataOp::DerefOf | DataOp::Store | DataOp::CopyObject | DataOp::Mid => any_data(),
     }
 }
 
 // The kinds of what an operator gives.
-fn plain_kinds(op: Plain) -> &'static [Kind]
+fn plain_kinds(op: Plain) -> &'static [ValueKind]
     ensures { result.now ≡ spec.plain_kinds op }
 {
     match op {
-        Plain::Number(_) => &[Kind::Integer],
+        Plain::Number(_) => &[ValueKind::Integer],
         Plain::Data(op) => data_kinds(op),
         Plain::Event(EventOp::Acquire | EventOp::Wait | EventOp::Timer | EventOp::Revision) => {
-            &[Kind::Integer]
+            &[ValueKind::Integer]
         }
         Plain::Event(_) => any_data(),
     }
 }
 
 /// The kinds of what a form gives that gives no argument on.
-pub fn form_kinds(op: Op) -> &'static [Kind]
+pub fn form_kinds(op: Op) -> &'static [ValueKind]
     ensures { result.now ≡ spec.form_kinds op }
 {
     match op {
         Op::Plain(op) => plain_kinds(op),
         Op::Symbolic(Symbolic::Operator(op)) => plain_kinds(op),
         Op::Symbolic(Symbolic::AssignBy(op)) => plain_kinds(compound_operator(op)),
-        Op::Literal(_) => &[Kind::Integer],
-        Op::Special(Special::CondRefOf) => &[Kind::Integer],
-        Op::Special(Special::Buffer) => &[Kind::Buffer],
-        Op::Special(Special::Package) => &[Kind::Package],
+        Op::Literal(_) => &[ValueKind::Integer],
+        Op::Special(Special::CondRefOf) => &[ValueKind::Integer],
+        Op::Special(Special::Buffer) => &[ValueKind::Buffer],
+        Op::Special(Special::Package) => &[ValueKind::Package],
         Op::Symbolic(Symbolic::Assign) => any_data(),
         Op::Control(_) => any_data(),
         Op::Declaration(_) => any_data(),

@@ -5,14 +5,14 @@ ghost use Rattle.acpi_names.specs.Errors.{Whole};
 ghost use Rattle.acpi_names.specs.Paths.{path_with};
 ghost use Rattle.acpi_names.specs.Terms.{are_terms};
 ghost use Rattle.asl_tree.specs.View.{trees_of};
-ghost use Rattle.name_entries.specs.declared.kind.Kind.TheVariants as N;
+ghost use Rattle.name_entries.specs.declared.kind.ObjectType.TheVariants as N;
 ghost use Rattle.name_kinds.specs.Facts.{Knows};
 ghost use Rattle.name_kinds.specs.Known.{KnowsItsTerms};
 ghost use Rattle.type_checks.specs.Names.{named, kind_known};
 
-use acpi_names::place::scope_in;
+use acpi_names::lookup::scope_in;
 use name_entries::description::kind_at;
-use name_entries::kind::Kind as Named;
+use name_entries::kind::ObjectType as Named;
 use name_entries::uses::uses_in;
 use name_kinds::facts::{Facts, end, is_named_at};
 use name_kinds::known::Known;

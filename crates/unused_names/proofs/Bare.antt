@@ -3,7 +3,7 @@ use Rattle.std.proofs.Common.{◌≡◌, Bool, true, false, List, [], ◌∷◌,
 use Rattle.acpi_values.specs.Paths.{AbsolutePath}
 use Rattle.asl_tree.specs.Tree.{Trees}
 use Rattle.asl_meaning.specs.Declarations.{Declared, As, AliasOf, Declarations, nothing_declared, is_named, called}
-use Rattle.asl_tree.specs.Names.{place_of, denoted}
+use Rattle.asl_tree.specs.Names.{declared_path, denoted}
 use Rattle.acpi_names.specs.Errors.{whole_of, name_errors, type_errors, ARegion}
 use Rattle.acpi_names.specs.Mentions.{Mention, Used', Sought, Called, Declares, Outside, Opens, block_mentions, after, after_all, call_in, calls_in, all_errors, all_types}
 use Rattle.acpi_names.specs.Terms.{are_terms}
@@ -107,7 +107,7 @@ module _ (has : AbsolutePath → Bool) where
   spared_one (Used' asked at name scope) = spares (denoted has name scope)
   spared_one (Sought at name scope) = tt
   spared_one (Called asked at name args scope) = spares (denoted has name scope)
-  spared_one (Declares at name as' scope) = (not_below (place_of name scope), source as')
+  spared_one (Declares at name as' scope) = (not_below (declared_path name scope), source as')
   spared_one (Outside here at name type scope) = tt
   spared_one (Opens here at name scope inner) = spares (denoted has name scope)
 

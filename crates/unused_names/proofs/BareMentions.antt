@@ -9,7 +9,7 @@ use Rattle.acpi_values.specs.declared.operator.EventOp.TheVariants as EventOp
 use Rattle.acpi_state.specs.Objects.{MethodObject, ContainerObject}
 use Rattle.acpi_state.specs.FieldActs.{region_letters, field_letters}
 use Rattle.asl_tree.specs.FieldItems.{FieldItem, UnitItem, SkipItem, OffsetItem, AccessItem, ConnectionItem, ToName, ToBytes}
-use Rattle.asl_tree.specs.Names.{place_of}
+use Rattle.asl_tree.specs.Names.{declared_path}
 use Rattle.asl_tree.specs.Tree.{Tree, Use, Call, Apply, Buffer, Package, VarPackage, CondRefOf, Return, Name, Alias, External, Method, Mutex, Event, Container', Scope, Trees, no_trees, tree, OperationRegion, Field, IndexField, BankField, CreateField, UnitName, If, ElseIf, Else, While, For, Print, Operated, Assigned, AssignedBy, Switch, Case, Default}
 use Rattle.asl_meaning.specs.Declarations.{As, Declarations, with_declared, scope_path, declare, declare_all, declare_item, declare_items, as_buffer_field}
 use Rattle.acpi_names.specs.Errors.{Asked, Anything, ARegion}
@@ -148,8 +148,8 @@ items_declare (item ∷ items) scope d = ap (declare_items (bare_items items) sc
 
 mutual
   declares_bare : (t : Tree) (scope : AbsolutePath) (d : Declarations) → declare (bare t) scope d ≡ declare t scope d
-  declares_bare (Method at name flags body) scope d = declare_bare body (place_of name scope) (with_declared (place_of name scope) (As (MethodObject flags)) d)
-  declares_bare (Container' kind at name body) scope d = declare_bare body (place_of name scope) (with_declared (place_of name scope) (As (ContainerObject kind)) d)
+  declares_bare (Method at name flags body) scope d = declare_bare body (declared_path name scope) (with_declared (declared_path name scope) (As (MethodObject flags)) d)
+  declares_bare (Container' kind at name body) scope d = declare_bare body (declared_path name scope) (with_declared (declared_path name scope) (As (ContainerObject kind)) d)
   declares_bare (Scope here at name body) scope d = declare_bare body (scope_path d name scope) d
   declares_bare (If test body) scope d = declare_bare body scope d
   declares_bare (ElseIf test body) scope d = declare_bare body scope d
@@ -179,10 +179,10 @@ mutual
   term_bare (Name at name value) scope d = one _ (value_bare true value scope)
   term_bare (Alias from source at name) scope d = refl
   term_bare (External here at name type parameters) scope d = refl
-  term_bare (Method at name flags body) scope d = one _ (block_bare body (place_of name scope) (with_declared (place_of name scope) (As (MethodObject flags)) d))
+  term_bare (Method at name flags body) scope d = one _ (block_bare body (declared_path name scope) (with_declared (declared_path name scope) (As (MethodObject flags)) d))
   term_bare (Mutex at name level) scope d = refl
   term_bare (Event at name) scope d = refl
-  term_bare (Container' kind at name body) scope d = one _ (block_bare body (place_of name scope) (with_declared (place_of name scope) (As (ContainerObject kind)) d))
+  term_bare (Container' kind at name body) scope d = one _ (block_bare body (declared_path name scope) (with_declared (declared_path name scope) (As (ContainerObject kind)) d))
   term_bare (Scope here at name body) scope d = one _ (block_bare body (scope_path d name scope) d)
   term_bare (If test body) scope d = before_body test body scope d (block_bare body scope d)
   term_bare (ElseIf test body) scope d = before_body test body scope d (block_bare body scope d)

@@ -6,7 +6,7 @@ use Rattle.acpi_values.specs.Paths.{AbsolutePath}
 use Rattle.acpi_state.specs.Objects.{Object, lookup, as_declared, root_objects}
 use Rattle.acpi_state.specs.Outcomes.{choose}
 use Rattle.asl_tree.specs.declared.path.Path.{Path}
-use Rattle.asl_tree.specs.Names.{Kind, Is, AliasTo, kind_at, end_by, end_of, denoted}
+use Rattle.asl_tree.specs.Names.{NameKind, Is, AliasTo, kind_at, end_by, end_of, denoted}
 use Rattle.asl_meaning.specs.Declarations.{Declared, As, AliasOf, in_root, is_named, kind_of, declared_kinds, external_names, as_known}
 use Rattle.acpi_names.specs.Errors.{Whole, final, name_end}
 use Rattle.name_kinds.specs.Tables.{IsKnown}
@@ -31,7 +31,7 @@ pub record Lessened (gone : AbsolutePath → Bool) (w w' : Whole) : Type 0 where
   pub sources : (p : AbsolutePath) → SparesDeclared gone (is_named w.all) (lookup w.all.declared p)
 
 -- the path to which an alias leads
-abbrev source_of : Option Kind → Option AbsolutePath
+abbrev source_of : Option NameKind → Option AbsolutePath
 source_of None = None
 source_of (Some (Is object)) = None
 source_of (Some (AliasTo source)) = source
@@ -92,7 +92,7 @@ module _ (gone : AbsolutePath → Bool) (w w' : Whole) (lessened : Lessened gone
   ends_same zero p h = refl
   ends_same (suc n) p h = ap (λ o. end_by o p (end_of w'.known n)) (kinds_same p h) ∙ by_kind (kind_at w.known p) (leads p) (ends_same n)
     where
-      by_kind : (o : Option Kind) → is_gone gone has (source_of o) ≡ false → ((q : AbsolutePath) → gone q ≡ false → end_of w'.known n q ≡ end_of w.known n q) → end_by o p (end_of w'.known n) ≡ end_by o p (end_of w.known n)
+      by_kind : (o : Option NameKind) → is_gone gone has (source_of o) ≡ false → ((q : AbsolutePath) → gone q ≡ false → end_of w'.known n q ≡ end_of w.known n q) → end_by o p (end_of w'.known n) ≡ end_by o p (end_of w.known n)
       by_kind None k go = refl
       by_kind (Some (Is object)) k go = refl
       by_kind (Some (AliasTo None)) k go = refl

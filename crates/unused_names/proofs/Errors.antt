@@ -5,10 +5,11 @@ use Rattle.acpi_values.specs.Paths.{AbsolutePath, is_same_path}
 use Rattle.acpi_state.specs.Objects.{lookup}
 use Rattle.acpi_state.specs.Outcomes.{choose}
 use Rattle.asl_tree.specs.declared.path.Path.{Path}
-use Rattle.asl_tree.specs.Names.{place_of, denoted}
+use Rattle.asl_tree.specs.Names.{declared_path, denoted}
 use Rattle.asl_tree.specs.Tree.{At}
 use Rattle.asl_meaning.specs.Declarations.{ExternalType, Declarations, in_root, is_named}
-use Rattle.acpi_names.specs.Errors.{NameError, Twice, DeclaredHere, Missing, NoContainer, LeavesRoot, Differs, TooLong, WrongCount, WrongKind, Asked, Anything, AnObject, AValue, AMutex, AnEvent, AUnit, ARegion, unless, Whole, step_errors, length_errors, is_new, has_parent, agrees_with, final, is_container, takes_none, takes, is_mutex, is_event, is_unit, is_region, declared_errors, external_errors, use_errors, call_errors, name_end, asked_types}
+use Rattle.acpi_names.specs.Errors.{NameError, Twice, DeclaredHere, Missing, NoContainer, LeavesRoot, Differs, TooLong, WrongCount, WrongKind, Asked, Anything, AnObject, AValue, AMutex, AnEvent, AUnit, ARegion, unless, Whole, step_errors}
+use Rattle.acpi_names.specs.Errors.{length_errors, is_new, has_parent, agrees_with, final, is_container, takes_none, takes, is_mutex, is_event, is_unit, is_region, declared_errors, external_errors, use_errors, call_errors, name_end, asked_types}
 use Rattle.acpi_names.specs.Mentions.{Mention, mention_errors, mention_types, opening_errors}
 use Rattle.unused_names.specs.Unused.{Twin, TwinUse, TwinRegion, TwinSought, TwinCalled, TwinDeclares, TwinOutside, TwinOpens, Stays, is_gone, is_below, Spares, SparesAll}
 use Rattle.unused_names.proofs.Less.{Less}
@@ -87,9 +88,9 @@ module _ (gone : AbsolutePath → Bool) (w w' : Whole) (lessened : Lessened gone
   parent_same [] h = refl
   parent_same (seg ∷ outer) h = left_named gone w w' lessened outer ∙ ap (λ b. if b then false else has outer) h
 
-  declared_moved : (at to : At) (name : Path) (scope : AbsolutePath) (d d' : Declarations) → Less gone d d' → gone (place_of name scope) ≡ false → is_below gone has (place_of name scope) ≡ false → declared_errors w at name scope d ≡ [] → declared_errors w' to name scope d' ≡ []
+  declared_moved : (at to : At) (name : Path) (scope : AbsolutePath) (d d' : Declarations) → Less gone d d' → gone (declared_path name scope) ≡ false → is_below gone has (declared_path name scope) ≡ false → declared_errors w at name scope d ≡ [] → declared_errors w' to name scope d' ≡ []
   declared_moved at to name scope d d' less stays below h =
-      let path : AbsolutePath = place_of name scope in
+      let path : AbsolutePath = declared_path name scope in
       let new = left_none (unless (is_new d path) (Twice at path)) _ h in
       let rest = right_none (unless (is_new d path) (Twice at path)) _ h in
       let steps = left_none (step_errors at name scope) _ rest in
@@ -109,7 +110,7 @@ module _ (gone : AbsolutePath → Bool) (w w' : Whole) (lessened : Lessened gone
 
   outside_moved : (here there at to : At) (name : Path) (type : ExternalType) (scope : AbsolutePath) (d d' : Declarations) → Less gone d d' → external_errors w here at name type scope d ≡ [] → external_errors w' there to name type scope d' ≡ []
   outside_moved here there at to name type scope d d' less h =
-      let path : AbsolutePath = place_of name scope in
+      let path : AbsolutePath = declared_path name scope in
       let own = not (is_some (lookup w.all.declared path)) in
       let first = left_none (unless own (DeclaredHere at path)) _ h in
       let rest = right_none (unless own (DeclaredHere at path)) _ h in

@@ -5,7 +5,7 @@ use Rattle.acpi_values.specs.Paths.{AbsolutePath, is_same_path}
 use Rattle.acpi_state.proofs.Lookups.{is_same_path-true}
 use Rattle.acpi_state.specs.Objects.{MethodObject, ContainerObject, DataObject, lookup}
 use Rattle.asl_tree.specs.declared.path.Path.{Path}
-use Rattle.asl_tree.specs.Names.{place_of}
+use Rattle.asl_tree.specs.Names.{declared_path}
 use Rattle.asl_tree.specs.Tree.{At, Tree, Name, Method, Container', Scope, Trees, no_trees, tree, If, ElseIf, Else, While, For, Switch, Case, Default}
 use Rattle.asl_meaning.specs.Declarations.{Declared, As, Declarations, in_root, with_declared, with_external, scope_path, declare, declare_all}
 use Rattle.acpi_names.specs.Errors.{NameError, Twice, unless, Whole, is_new, declared_errors}
@@ -18,7 +18,7 @@ use Rattle.unused_names.proofs.Errors.{left_none, right_none}
 -- some of the mentions declare these paths, in this order
 pub data Holds : List Mention → List AbsolutePath → Type 0 where
   NoneHeld : Holds [] []
-  Held : (at : At) (name : Path) (as' : Declared) (scope : AbsolutePath) {ms : List Mention} {ps : List AbsolutePath} → Holds ms ps → Holds (Declares at name as' scope ∷ ms) (place_of name scope ∷ ps)
+  Held : (at : At) (name : Path) (as' : Declared) (scope : AbsolutePath) {ms : List Mention} {ps : List AbsolutePath} → Holds ms ps → Holds (Declares at name as' scope ∷ ms) (declared_path name scope ∷ ps)
   Other : (m : Mention) {ms : List Mention} {ps : List AbsolutePath} → Holds ms ps → Holds (m ∷ ms) ps
 
 holds_none : (ms : List Mention) → Holds ms []
@@ -34,11 +34,11 @@ mutual
   pub holds_term : (t : Tree) (scope : AbsolutePath) (d : Declarations) → Holds (term_mentions t scope d) (descriptors_of t scope d)
   holds_term (Name at name value) scope d = by_fill (is_fill value)
     where
-      by_fill : (b : Bool) → Holds (Declares at name (As DataObject) scope ∷ mentions true value scope) (if b then place_of name scope ∷ [] else [])
+      by_fill : (b : Bool) → Holds (Declares at name (As DataObject) scope ∷ mentions true value scope) (if b then declared_path name scope ∷ [] else [])
       by_fill true = Held at name (As DataObject) scope (holds_none (mentions true value scope))
       by_fill false = Other (Declares at name (As DataObject) scope) (holds_none (mentions true value scope))
-  holds_term (Method at name flags body) scope d = Other _ (holds_block body (place_of name scope) (with_declared (place_of name scope) (As (MethodObject flags)) d))
-  holds_term (Container' kind at name body) scope d = Other _ (holds_block body (place_of name scope) (with_declared (place_of name scope) (As (ContainerObject kind)) d))
+  holds_term (Method at name flags body) scope d = Other _ (holds_block body (declared_path name scope) (with_declared (declared_path name scope) (As (MethodObject flags)) d))
+  holds_term (Container' kind at name body) scope d = Other _ (holds_block body (declared_path name scope) (with_declared (declared_path name scope) (As (ContainerObject kind)) d))
   holds_term (Scope here at name body) scope d = Other _ (holds_block body (scope_path d name scope) d)
   holds_term (If v body) scope d = holds_both (holds_none (mentions true v scope)) (holds_block body scope d)
   holds_term (ElseIf v body) scope d = holds_both (holds_none (mentions true v scope)) (holds_block body scope d)
@@ -63,14 +63,14 @@ grows_one : (m : Mention) (d : Declarations) (p : AbsolutePath) → IsThere d p 
 grows_one (Used' asked at name scope) d p h = h
 grows_one (Sought at name scope) d p h = h
 grows_one (Called asked at name args scope) d p h = h
-grows_one (Declares at name as' scope) d p h = by_same (is_same_path (place_of name scope) p)
+grows_one (Declares at name as' scope) d p h = by_same (is_same_path (declared_path name scope) p)
   where
     by_same : (b : Bool) → is_some (if b then Some as' else lookup d.declared p) ≡ true
     by_same true = refl
     by_same false = h
-grows_one (Outside here at name type scope) d p h = by_root (in_root (place_of name scope))
+grows_one (Outside here at name type scope) d p h = by_root (in_root (declared_path name scope))
   where
-    by_root : (b : Bool) → is_some (lookup (with_external b (place_of name scope) type d).declared p) ≡ true
+    by_root : (b : Bool) → is_some (lookup (with_external b (declared_path name scope) type d).declared p) ≡ true
     by_root true = h
     by_root false = h
 grows_one (Opens here at name scope inner) d p h = h
@@ -101,19 +101,19 @@ new_free false true e h = absurd cc
 new_free false false e h = refl
 
 -- a name that is declared is new
-pub declared_new : (w : Whole) (at : At) (name : Path) (scope : AbsolutePath) (d : Declarations) → declared_errors w at name scope d ≡ [] → is_some (lookup d.declared (place_of name scope)) ≡ false
+pub declared_new : (w : Whole) (at : At) (name : Path) (scope : AbsolutePath) (d : Declarations) → declared_errors w at name scope d ≡ [] → is_some (lookup d.declared (declared_path name scope)) ≡ false
 declared_new w at name scope d h =
-    new_free (in_root (place_of name scope)) (is_some (lookup d.declared (place_of name scope))) (Twice at (place_of name scope)) (left_none (unless (is_new d (place_of name scope)) (Twice at (place_of name scope))) _ h)
+    new_free (in_root (declared_path name scope)) (is_some (lookup d.declared (declared_path name scope))) (Twice at (declared_path name scope)) (left_none (unless (is_new d (declared_path name scope)) (Twice at (declared_path name scope))) _ h)
 
 -- what is there before declares no descriptor again
 not_again : (w : Whole) {ms : List Mention} {ps : List AbsolutePath} → Holds ms ps → (d : Declarations) (p : AbsolutePath) → all_errors w ms d ≡ [] → IsThere d p → is_one_of ps p ≡ false
 not_again w NoneHeld d p h there = refl
 not_again w (Held at name as' scope holds) d p h there =
-    by_same (is_same_path (place_of name scope) p) refl (not_again w holds (after (Declares at name as' scope) d) p (right_none (declared_errors w at name scope d) _ h) (grows_one (Declares at name as' scope) d p there))
+    by_same (is_same_path (declared_path name scope) p) refl (not_again w holds (after (Declares at name as' scope) d) p (right_none (declared_errors w at name scope d) _ h) (grows_one (Declares at name as' scope) d p there))
   where
-    by_same : (b : Bool) → is_same_path (place_of name scope) p ≡ b → {c : Bool} → c ≡ false → (b || c) ≡ false
+    by_same : (b : Bool) → is_same_path (declared_path name scope) p ≡ b → {c : Bool} → c ≡ false → (b || c) ≡ false
     by_same false e k = k
-    by_same true e k = absurd (let x = sym (declared_new w at name scope d (left_none (declared_errors w at name scope d) _ h)) ∙ (ap (λ q. is_some (lookup d.declared q)) (is_same_path-true (place_of name scope) p e) ∙ there) in grind arith)
+    by_same true e k = absurd (let x = sym (declared_new w at name scope d (left_none (declared_errors w at name scope d) _ h)) ∙ (ap (λ q. is_some (lookup d.declared q)) (is_same_path-true (declared_path name scope) p e) ∙ there) in grind arith)
 not_again w (Other m {ms = ms} holds) d p h there = not_again w holds (after m d) p (right_none (mention_errors w m d) _ h) (grows_one m d p there)
 
 pub term_not_again : (w : Whole) (t : Tree) (scope : AbsolutePath) (d : Declarations) (p : AbsolutePath) → all_errors w (term_mentions t scope d) d ≡ [] → IsThere d p → is_one_of (descriptors_of t scope d) p ≡ false
@@ -125,10 +125,10 @@ block_not_again w ts scope d p h there = not_again w (holds_block ts scope d) d 
 -- the paths are declared
 held_there : {ms : List Mention} {ps : List AbsolutePath} → Holds ms ps → (d : Declarations) (p : AbsolutePath) → is_one_of ps p ≡ true → IsThere (after_all ms d) p
 held_there NoneHeld d p h = absurd cc
-held_there (Held at name as' scope {ms = ms} {ps = ps} holds) d p h = by_same (is_same_path (place_of name scope) p) refl h (held_there holds (after (Declares at name as' scope) d) p)
+held_there (Held at name as' scope {ms = ms} {ps = ps} holds) d p h = by_same (is_same_path (declared_path name scope) p) refl h (held_there holds (after (Declares at name as' scope) d) p)
   where
-    by_same : (b : Bool) → is_same_path (place_of name scope) p ≡ b → (b || is_one_of ps p) ≡ true → (is_one_of ps p ≡ true → IsThere (after_all ms (with_declared (place_of name scope) as' d)) p) → IsThere (after_all ms (with_declared (place_of name scope) as' d)) p
-    by_same true e k go = grows ms (with_declared (place_of name scope) as' d) p (ap (λ b. is_some (if b then Some as' else lookup d.declared p)) e)
+    by_same : (b : Bool) → is_same_path (declared_path name scope) p ≡ b → (b || is_one_of ps p) ≡ true → (is_one_of ps p ≡ true → IsThere (after_all ms (with_declared (declared_path name scope) as' d)) p) → IsThere (after_all ms (with_declared (declared_path name scope) as' d)) p
+    by_same true e k go = grows ms (with_declared (declared_path name scope) as' d) p (ap (λ b. is_some (if b then Some as' else lookup d.declared p)) e)
     by_same false e k go = go k
 held_there (Other m holds) d p h = held_there holds (after m d) p h
 

@@ -4,7 +4,7 @@ use Rattle.std.specs.Prelude.{◌||◌, if◌then◌else◌, is_some}
 use Rattle.acpi_values.specs.Paths.{AbsolutePath, is_same_path}
 use Rattle.acpi_state.specs.Objects.{lookup}
 use Rattle.acpi_state.proofs.Lookups.{is_same_path-true}
-use Rattle.asl_tree.specs.Names.{place_of}
+use Rattle.asl_tree.specs.Names.{declared_path}
 use Rattle.asl_meaning.specs.Declarations.{Declared, ExternalType, Declarations, in_root, is_named, with_declared, with_external, with_first}
 use Rattle.acpi_names.specs.Mentions.{Mention, after, after_all}
 use Rattle.unused_names.specs.Unused.{Twin, TwinUse, TwinRegion, TwinSought, TwinCalled, TwinDeclares, TwinOutside, TwinOpens, Stays, Drops, NoMentions, Dropped, Stayed}
@@ -51,13 +51,13 @@ less_twin gone (TwinUse asked at to name scope) stays d d' less = less
 less_twin gone (TwinRegion field other at to name scope) stays d d' less = less
 less_twin gone (TwinSought at to name scope) stays d d' less = less
 less_twin gone (TwinCalled asked at to name args scope) stays d d' less = less
-less_twin gone (TwinDeclares at to name as' scope) stays d d' less = less_stayed gone (place_of name scope) as' d d' stays less
-less_twin gone (TwinOutside here there at to name type scope) stays d d' less = less_outside gone (in_root (place_of name scope)) (place_of name scope) type d d' less
+less_twin gone (TwinDeclares at to name as' scope) stays d d' less = less_stayed gone (declared_path name scope) as' d d' stays less
+less_twin gone (TwinOutside here there at to name type scope) stays d d' less = less_outside gone (in_root (declared_path name scope)) (declared_path name scope) type d d' less
 less_twin gone (TwinOpens here there at to name scope inner) stays d d' less = less
 
 pub less_after : (gone : AbsolutePath → Bool) {ms others : List Mention} → Drops gone ms others → (d d' : Declarations) → Less gone d d' → Less gone (after_all ms d) (after_all others d')
 less_after gone NoMentions d d' less = less
-less_after gone (Dropped at name as' scope h rest) d d' less = less_after gone rest (with_declared (place_of name scope) as' d) d' (less_dropped gone (place_of name scope) as' d d' h less)
+less_after gone (Dropped at name as' scope h rest) d d' less = less_after gone rest (with_declared (declared_path name scope) as' d) d' (less_dropped gone (declared_path name scope) as' d d' h less)
 less_after gone (Stayed twin stays rest) d d' less = less_after gone rest _ _ (less_twin gone twin stays d d' less)
 
 -- the names that are left

@@ -6,7 +6,7 @@ use Rattle.acpi_state.specs.Objects.{lookup}
 use Rattle.acpi_state.specs.Outcomes.{choose}
 use Rattle.acpi_state.proofs.Lookups.{is_same_path-true}
 use Rattle.asl_tree.specs.declared.path.Path.{Path}
-use Rattle.asl_tree.specs.Names.{place_of}
+use Rattle.asl_tree.specs.Names.{declared_path}
 use Rattle.asl_tree.specs.Tree.{At}
 use Rattle.asl_meaning.specs.Declarations.{Declared, ExternalType, Declarations, nothing_declared, in_root, is_named, called, with_declared, with_external}
 use Rattle.acpi_names.specs.Errors.{NameError, Twice, DeclaredHere, unless, Whole, is_new, declared_errors, external_errors}
@@ -31,10 +31,10 @@ module _ (w : Whole) where
   own_after [] d p h root none = none
   own_after (m ∷ ms) d p h root none = own_after ms (after m d) p (right_none (mention_errors w m d) _ h) root (by_mention m (left_none (mention_errors w m d) _ h))
     where
-      by_same : (at : At) (name : Path) (as' : Declared) (scope : AbsolutePath) (b : Bool) → is_same_path (place_of name scope) p ≡ b → declared_errors w at name scope d ≡ [] → is_some (if b then Some as' else lookup d.declared p) ≡ false
+      by_same : (at : At) (name : Path) (as' : Declared) (scope : AbsolutePath) (b : Bool) → is_same_path (declared_path name scope) p ≡ b → declared_errors w at name scope d ≡ [] → is_some (if b then Some as' else lookup d.declared p) ≡ false
       by_same at name as' scope false e k = none
       by_same at name as' scope true e k =
-          absurd (let x = sym (new_own (in_root (place_of name scope)) (is_some (lookup d.declared (place_of name scope))) (Twice at (place_of name scope)) (left_none (unless (is_new d (place_of name scope)) (Twice at (place_of name scope))) _ k)) ∙ ap in_root (is_same_path-true (place_of name scope) p e) ∙ root in grind arith)
+          absurd (let x = sym (new_own (in_root (declared_path name scope)) (is_some (lookup d.declared (declared_path name scope))) (Twice at (declared_path name scope)) (left_none (unless (is_new d (declared_path name scope)) (Twice at (declared_path name scope))) _ k)) ∙ ap in_root (is_same_path-true (declared_path name scope) p e) ∙ root in grind arith)
 
       outside : (b : Bool) (path : AbsolutePath) (type : ExternalType) → is_some (lookup (with_external b path type d).declared p) ≡ false
       outside true path type = none
@@ -44,25 +44,25 @@ module _ (w : Whole) where
       by_mention (Used' asked at name scope) k = none
       by_mention (Sought at name scope) k = none
       by_mention (Called asked at name args scope) k = none
-      by_mention (Declares at name as' scope) k = by_same at name as' scope (is_same_path (place_of name scope) p) refl k
-      by_mention (Outside here at name type scope) k = outside (in_root (place_of name scope)) (place_of name scope) type
+      by_mention (Declares at name as' scope) k = by_same at name as' scope (is_same_path (declared_path name scope) p) refl k
+      by_mention (Outside here at name type scope) k = outside (in_root (declared_path name scope)) (declared_path name scope) type
       by_mention (Opens here at name scope inner) k = none
 
   outside_after : (ms : List Mention) (d : Declarations) (p : AbsolutePath) → all_errors w ms d ≡ [] → is_some (lookup w.all.declared p) ≡ true → is_some (lookup d.external p) ≡ false → is_some (lookup (after_all ms d).external p) ≡ false
   outside_after [] d p h there none = none
   outside_after (m ∷ ms) d p h there none = outside_after ms (after m d) p (right_none (mention_errors w m d) _ h) there (by_mention m (left_none (mention_errors w m d) _ h))
     where
-      by_same : (here at : At) (name : Path) (type : ExternalType) (scope : AbsolutePath) (b : Bool) → is_same_path (place_of name scope) p ≡ b → external_errors w here at name type scope d ≡ [] → is_some (if b then Some type else lookup d.external p) ≡ false
+      by_same : (here at : At) (name : Path) (type : ExternalType) (scope : AbsolutePath) (b : Bool) → is_same_path (declared_path name scope) p ≡ b → external_errors w here at name type scope d ≡ [] → is_some (if b then Some type else lookup d.external p) ≡ false
       by_same here at name type scope false e k = none
       by_same here at name type scope true e k =
-          absurd (let x = sym (undeclared (lookup w.all.declared (place_of name scope)) (DeclaredHere at (place_of name scope)) (left_none (unless (not (is_some (lookup w.all.declared (place_of name scope)))) (DeclaredHere at (place_of name scope))) _ k)) ∙ ap (λ q. is_some (lookup w.all.declared q)) (is_same_path-true (place_of name scope) p e) ∙ there in grind arith)
+          absurd (let x = sym (undeclared (lookup w.all.declared (declared_path name scope)) (DeclaredHere at (declared_path name scope)) (left_none (unless (not (is_some (lookup w.all.declared (declared_path name scope)))) (DeclaredHere at (declared_path name scope))) _ k)) ∙ ap (λ q. is_some (lookup w.all.declared q)) (is_same_path-true (declared_path name scope) p e) ∙ there in grind arith)
 
-      outside : (b : Bool) (here at : At) (name : Path) (type : ExternalType) (scope : AbsolutePath) → external_errors w here at name type scope d ≡ [] → is_some (lookup (with_external b (place_of name scope) type d).external p) ≡ false
+      outside : (b : Bool) (here at : At) (name : Path) (type : ExternalType) (scope : AbsolutePath) → external_errors w here at name type scope d ≡ [] → is_some (lookup (with_external b (declared_path name scope) type d).external p) ≡ false
       outside true here at name type scope k = none
-      outside false here at name type scope k = by_first (lookup d.external (place_of name scope))
+      outside false here at name type scope k = by_first (lookup d.external (declared_path name scope))
         where
-          by_first : (o : Option ExternalType) → is_some (lookup (choose o ((place_of name scope, type) ∷ d.external) (λ first. d.external)) p) ≡ false
-          by_first None = by_same here at name type scope (is_same_path (place_of name scope) p) refl k
+          by_first : (o : Option ExternalType) → is_some (lookup (choose o ((declared_path name scope, type) ∷ d.external) (λ first. d.external)) p) ≡ false
+          by_first None = by_same here at name type scope (is_same_path (declared_path name scope) p) refl k
           by_first (Some first) = none
 
       by_mention : (m : Mention) → mention_errors w m d ≡ [] → is_some (lookup (after m d).external p) ≡ false
@@ -70,7 +70,7 @@ module _ (w : Whole) where
       by_mention (Sought at name scope) k = none
       by_mention (Called asked at name args scope) k = none
       by_mention (Declares at name as' scope) k = none
-      by_mention (Outside here at name type scope) k = outside (in_root (place_of name scope)) here at name type scope k
+      by_mention (Outside here at name type scope) k = outside (in_root (declared_path name scope)) here at name type scope k
       by_mention (Opens here at name scope inner) k = none
 
 module _ (gone has : AbsolutePath → Bool) where
@@ -90,8 +90,8 @@ module _ (gone has : AbsolutePath → Bool) where
       by_mention (Used' asked at name scope) k q = old q
       by_mention (Sought at name scope) k q = old q
       by_mention (Called asked at name args scope) k q = old q
-      by_mention (Declares at name as' scope) k q = by_same as' q (is_same_path (place_of name scope) q) k.1
-      by_mention (Outside here at name type scope) k q = outside (in_root (place_of name scope)) (place_of name scope) type q
+      by_mention (Declares at name as' scope) k q = by_same as' q (is_same_path (declared_path name scope) q) k.1
+      by_mention (Outside here at name type scope) k q = outside (in_root (declared_path name scope)) (declared_path name scope) type q
       by_mention (Opens here at name scope inner) k q = old q
 
 -- the calls are the same
@@ -114,7 +114,7 @@ module _ (gone : AbsolutePath → Bool) (w w' : Whole) (lessened : Lessened gone
   all_errors_left : {ms others : List Mention} → Drops gone ms others → (d d' : Declarations) → Less gone d d' → AreSpared gone (is_named w.all) ms → all_errors w ms d ≡ [] → all_errors w' others d' ≡ []
   all_errors_left NoMentions d d' less spared h = refl
   all_errors_left (Dropped at name as' scope {ms = ms} e rest) d d' less spared h =
-      all_errors_left rest (with_declared (place_of name scope) as' d) d' (less_dropped gone (place_of name scope) as' d d' e less) spared.1 (right_none (declared_errors w at name scope d) _ h)
+      all_errors_left rest (with_declared (declared_path name scope) as' d) d' (less_dropped gone (declared_path name scope) as' d d' e less) spared.1 (right_none (declared_errors w at name scope d) _ h)
   all_errors_left (Stayed {m = m} {other = other} {ms = ms} twin stays rest) d d' less spared h =
       none_both (errors_moved gone w w' lessened twin d d' less stays spared.0 (left_none (mention_errors w m d) _ h))
       (all_errors_left rest (after m d) (after other d') (less_twin gone twin stays d d' less) spared.1 (right_none (mention_errors w m d) _ h))

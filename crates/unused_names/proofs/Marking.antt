@@ -6,7 +6,7 @@ use Rattle.acpi_state.specs.Objects.{MethodObject, ContainerObject, MutexObject,
 use Rattle.acpi_state.specs.FieldActs.{field_letters}
 use Rattle.asl_tree.specs.declared.path.Path.{Path}
 use Rattle.asl_tree.specs.FieldItems.{FieldItem, UnitItem, SkipItem, OffsetItem, AccessItem, ConnectionItem, ToName, ToBytes}
-use Rattle.asl_tree.specs.Names.{place_of}
+use Rattle.asl_tree.specs.Names.{declared_path}
 use Rattle.asl_tree.specs.Tree.{At, Tree, Name, Alias, External, Method, Mutex, Event, Container', Scope, Trees, no_trees, tree, UnitName, OperationRegion, Field, IndexField, BankField, CreateField, If, ElseIf, Else, While, For, Switch, Case, Default}
 use Rattle.asl_meaning.specs.Declarations.{Declared, As, AliasOf, Declarations, nothing_declared, with_declared, scope_path, declare, declare_all, declare_items, as_unit, as_buffer_field}
 use Rattle.acpi_names.specs.Errors.{DeclaredHere, Anything, unless, Whole, use_errors, declared_errors, external_errors, unit_path}
@@ -63,7 +63,8 @@ module _ (gone : AbsolutePath → Bool) (w : Whole) (declared : (p : AbsolutePat
       by_gone false e = refl
       by_gone true e = absurd (bounds.known q e new other (bounds.fresh q there))
 
-  first_bounds : (t : Tree) (ts : Trees) (scope : AbsolutePath) (d : Declarations) (later : List AbsolutePath) → all_errors w (block_mentions ts scope (declare t scope d)) (declare t scope d) ≡ [] → Bounds gone d (descriptors (tree t ts) scope d) (declare_all (tree t ts) scope d) later → Bounds gone d (descriptors_of t scope d) (declare t scope d) (descriptors ts scope (declare t scope d) ++ later)
+  first_bounds : (t : Tree) (ts : Trees) (scope : AbsolutePath) (d : Declarations) (later : List AbsolutePath) → all_errors w (block_mentions ts scope (declare t scope d)) (declare t scope d) ≡ [] → Bounds gone d (descriptors (tree t ts) scope d) (declare_all (tree t ts) scope d) later
+      → Bounds gone d (descriptors_of t scope d) (declare t scope d) (descriptors ts scope (declare t scope d) ++ later)
   first_bounds t ts scope d later h bounds = record {
     known = λ p g a b c.
         let rest : List AbsolutePath = descriptors ts scope (declare t scope d) in
@@ -90,16 +91,16 @@ module _ (gone : AbsolutePath → Bool) (w : Whole) (declared : (p : AbsolutePat
   }
 
   -- a name that is declared at a node, with nothing else
-  declared_alone : (at : At) (name : Path) (as' : Declared) (scope : AbsolutePath) (d : Declarations) (later : List AbsolutePath) → Bounds gone d [] (with_declared (place_of name scope) as' d) later → declared_errors w at name scope d ≡ [] → gone (place_of name scope) ≡ false
+  declared_alone : (at : At) (name : Path) (as' : Declared) (scope : AbsolutePath) (d : Declarations) (later : List AbsolutePath) → Bounds gone d [] (with_declared (declared_path name scope) as' d) later → declared_errors w at name scope d ≡ [] → gone (declared_path name scope) ≡ false
   declared_alone at name as' scope d later bounds h =
-      not_gone d [] (with_declared (place_of name scope) as' d) later bounds (place_of name scope) (declared_new w at name scope d h) refl (now_there (place_of name scope) as' d)
+      not_gone d [] (with_declared (declared_path name scope) as' d) later bounds (declared_path name scope) (declared_new w at name scope d h) refl (now_there (declared_path name scope) as' d)
 
-  external_new : (here at : At) (name : Path) (scope : AbsolutePath) → unless (not (is_some (lookup w.all.declared (place_of name scope)))) (DeclaredHere at (place_of name scope)) ≡ [] → gone (place_of name scope) ≡ false
-  external_new here at name scope h = by_gone (gone (place_of name scope)) refl
+  external_new : (here at : At) (name : Path) (scope : AbsolutePath) → unless (not (is_some (lookup w.all.declared (declared_path name scope)))) (DeclaredHere at (declared_path name scope)) ≡ [] → gone (declared_path name scope) ≡ false
+  external_new here at name scope h = by_gone (gone (declared_path name scope)) refl
     where
-      by_gone : (b : Bool) → gone (place_of name scope) ≡ b → b ≡ false
+      by_gone : (b : Bool) → gone (declared_path name scope) ≡ b → b ≡ false
       by_gone false e = refl
-      by_gone true e = absurd (let x = sym (ap (λ b. unless (not b) (DeclaredHere at (place_of name scope))) (declared (place_of name scope) e)) ∙ h in grind arith)
+      by_gone true e = absurd (let x = sym (ap (λ b. unless (not b) (DeclaredHere at (declared_path name scope))) (declared (declared_path name scope) e)) ∙ h in grind arith)
 
   items_there : (items : List (FieldItem UnitName)) (scope : AbsolutePath) (d : Declarations) (p : AbsolutePath) → IsThere d p → IsThere (declare_items items scope d) p
   items_there [] scope d p h = h
@@ -123,17 +124,18 @@ module _ (gone : AbsolutePath → Bool) (w : Whole) (declared : (p : AbsolutePat
   marks_items (ConnectionItem (ToName at name) ∷ items) scope d later bounds h = marks_items items scope d later bounds (right_none (use_errors w at name scope) _ h)
   marks_items (ConnectionItem (ToBytes bytes) ∷ items) scope d later bounds h = marks_items items scope d later bounds h
 
-  marks_name : (at : At) (name : Path) (scope : AbsolutePath) (d : Declarations) (later : List AbsolutePath) (b : Bool) → Bounds gone d (if b then place_of name scope ∷ [] else []) (with_declared (place_of name scope) (As DataObject) d) later → declared_errors w at name scope d ≡ [] → gone (place_of name scope) ≡ b
-  marks_name at name scope d later true bounds h = bounds.mine (place_of name scope) (ap (λ c. c || false) (same_path_refl (place_of name scope)))
+  marks_name : (at : At) (name : Path) (scope : AbsolutePath) (d : Declarations) (later : List AbsolutePath) (b : Bool) → Bounds gone d (if b then declared_path name scope ∷ [] else []) (with_declared (declared_path name scope) (As DataObject) d) later → declared_errors w at name scope d ≡ [] → gone (declared_path name scope) ≡ b
+  marks_name at name scope d later true bounds h = bounds.mine (declared_path name scope) (ap (λ c. c || false) (same_path_refl (declared_path name scope)))
   marks_name at name scope d later false bounds h = declared_alone at name (As DataObject) scope d later bounds h
 
   errors_body : (v : Tree) (body : Trees) (scope : AbsolutePath) (d : Declarations) → all_errors w (mentions true v scope ++ block_mentions body scope d) d ≡ [] → all_errors w (block_mentions body scope d) d ≡ []
   errors_body v body scope d h = errors_right gone w (mentions true v scope) (block_mentions body scope d) d d (quiet true v scope d) h
 
   -- a form that declares its name before its terms
-  marks_head : (at : At) (name : Path) (as' : Declared) (body : Trees) (scope : AbsolutePath) (d : Declarations) (later : List AbsolutePath) → Bounds gone d (descriptors body (place_of name scope) (with_declared (place_of name scope) as' d)) (declare_all body (place_of name scope) (with_declared (place_of name scope) as' d)) later → declared_errors w at name scope d ≡ [] → all_errors w (block_mentions body (place_of name scope) (with_declared (place_of name scope) as' d)) (with_declared (place_of name scope) as' d) ≡ [] → gone (place_of name scope) ≡ false
+  marks_head : (at : At) (name : Path) (as' : Declared) (body : Trees) (scope : AbsolutePath) (d : Declarations) (later : List AbsolutePath) → Bounds gone d (descriptors body (declared_path name scope) (with_declared (declared_path name scope) as' d)) (declare_all body (declared_path name scope) (with_declared (declared_path name scope) as' d)) later → declared_errors w at name scope d ≡ []
+      → all_errors w (block_mentions body (declared_path name scope) (with_declared (declared_path name scope) as' d)) (with_declared (declared_path name scope) as' d) ≡ [] → gone (declared_path name scope) ≡ false
   marks_head at name as' body scope d later bounds h k =
-      let path : AbsolutePath = place_of name scope in
+      let path : AbsolutePath = declared_path name scope in
       let inner : Declarations = with_declared path as' d in
       not_gone d (descriptors body path inner) (declare_all body path inner) later bounds path (declared_new w at name scope d h) (block_not_again w body path inner path k (now_there path as' d)) (grows_block body path inner path (now_there path as' d))
 
@@ -143,9 +145,9 @@ module _ (gone : AbsolutePath → Bool) (w : Whole) (declared : (p : AbsolutePat
     marks_term (Alias from source at name) scope d later bounds h =
         declared_alone at name (AliasOf source scope) scope d later bounds (left_none (declared_errors w at name scope d) _ (right_none (use_errors w from source scope) _ h))
     marks_term (External here at name type parameters) scope d later bounds h =
-        external_new here at name scope (left_none (unless (not (is_some (lookup w.all.declared (place_of name scope)))) (DeclaredHere at (place_of name scope))) _ (left_none (external_errors w here at name (record { type = type; parameters = parameters }) scope d) _ h))
+        external_new here at name scope (left_none (unless (not (is_some (lookup w.all.declared (declared_path name scope)))) (DeclaredHere at (declared_path name scope))) _ (left_none (external_errors w here at name (record { type = type; parameters = parameters }) scope d) _ h))
     marks_term (Method at name flags body) scope d later bounds h =
-        let path : AbsolutePath = place_of name scope in
+        let path : AbsolutePath = declared_path name scope in
         let inner : Declarations = with_declared path (As (MethodObject flags)) d in
         let first = left_none (declared_errors w at name scope d) _ h in
         let rest = right_none (declared_errors w at name scope d) _ h in
@@ -153,7 +155,7 @@ module _ (gone : AbsolutePath → Bool) (w : Whole) (declared : (p : AbsolutePat
     marks_term (Mutex at name level) scope d later bounds h = declared_alone at name (As (MutexObject level)) scope d later bounds (left_none (declared_errors w at name scope d) _ h)
     marks_term (Event at name) scope d later bounds h = declared_alone at name (As EventObject) scope d later bounds (left_none (declared_errors w at name scope d) _ h)
     marks_term (Container' kind at name body) scope d later bounds h =
-        let path : AbsolutePath = place_of name scope in
+        let path : AbsolutePath = declared_path name scope in
         let inner : Declarations = with_declared path (As (ContainerObject kind)) d in
         let first = left_none (declared_errors w at name scope d) _ h in
         let rest = right_none (declared_errors w at name scope d) _ h in

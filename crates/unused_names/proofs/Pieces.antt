@@ -7,7 +7,7 @@ use Rattle.acpi_values.specs.Operators.{Letter, Used, row_of}
 use Rattle.acpi_state.specs.Objects.{lookup}
 use Rattle.acpi_state.specs.Outcomes.{choose}
 use Rattle.asl_tree.specs.FieldItems.{FieldItem, UnitItem, SkipItem, OffsetItem, AccessItem, ConnectionItem, ToName, ToBytes}
-use Rattle.asl_tree.specs.Names.{place_of}
+use Rattle.asl_tree.specs.Names.{declared_path}
 use Rattle.asl_tree.specs.Tree.{Tree, Use, Call, Apply, Buffer, Package, VarPackage, CondRefOf, Trees, no_trees, tree, UnitName, Operated, Assigned, AssignedBy}
 use Rattle.asl_meaning.specs.Declarations.{ExternalType, Declarations, in_root, with_external}
 use Rattle.acpi_names.specs.Errors.{Asked}
@@ -62,7 +62,7 @@ module _ (gone : AbsolutePath → Bool) where
   outer_twin (TwinSought at to name scope) stays d outer = outer
   outer_twin (TwinCalled asked at to name args scope) stays d outer = outer
   outer_twin (TwinDeclares at to name as' scope) stays d outer = outer
-  outer_twin (TwinOutside here there at to name type scope) stays d outer = outside_kept (in_root (place_of name scope)) (place_of name scope) type d stays outer
+  outer_twin (TwinOutside here there at to name type scope) stays d outer = outside_kept (in_root (declared_path name scope)) (declared_path name scope) type d stays outer
   outer_twin (TwinOpens here there at to name scope inner) stays d outer = outer
 
   pub outer_after : {ms others : List Mention} → Drops gone ms others → (d : Declarations) → Outer d → Outer (after_all ms d)

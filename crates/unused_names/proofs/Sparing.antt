@@ -4,7 +4,7 @@ use Rattle.acpi_values.specs.Paths.{AbsolutePath}
 use Rattle.acpi_state.specs.Objects.{MethodObject, ContainerObject}
 use Rattle.acpi_state.specs.FieldActs.{region_letters, field_letters}
 use Rattle.asl_tree.specs.FieldItems.{FieldItem, UnitItem, SkipItem, OffsetItem, AccessItem, ConnectionItem, ToName, ToBytes}
-use Rattle.asl_tree.specs.Names.{place_of}
+use Rattle.asl_tree.specs.Names.{declared_path}
 use Rattle.asl_tree.specs.Tree.{Tree, Return, Name, Alias, External, Method, Mutex, Event, Container', Scope, Trees, no_trees, tree, UnitName, OperationRegion, Field, IndexField, BankField, CreateField, If, ElseIf, Else, While, For, Print, Switch, Case, Default}
 use Rattle.asl_meaning.specs.Declarations.{As, Declarations, nothing_declared, declarations, is_named, with_declared, scope_path, declare}
 use Rattle.acpi_names.specs.Errors.{Anything}
@@ -69,10 +69,10 @@ module _ (gone has : AbsolutePath → Bool) where
     term (Name at name v) scope d h = (tt, value v scope)
     term (Alias from source at name) scope d h = (tt, (h.0, tt))
     term (External here at name type parameters) scope d h = (tt, tt)
-    term (Method at name flags body) scope d h = (tt, block body (place_of name scope) (with_declared (place_of name scope) (As (MethodObject flags)) d) h.1)
+    term (Method at name flags body) scope d h = (tt, block body (declared_path name scope) (with_declared (declared_path name scope) (As (MethodObject flags)) d) h.1)
     term (Mutex at name level) scope d h = (tt, tt)
     term (Event at name) scope d h = (tt, tt)
-    term (Container' kind at name body) scope d h = (tt, block body (place_of name scope) (with_declared (place_of name scope) (As (ContainerObject kind)) d) h.1)
+    term (Container' kind at name body) scope d h = (tt, block body (declared_path name scope) (with_declared (declared_path name scope) (As (ContainerObject kind)) d) h.1)
     term (Scope here at name body) scope d h = (tt, block body (scope_path d name scope) d h.1)
     term (If v body) scope d h = both (mentions true v scope) (block_mentions body scope d) (value v scope) (block body scope d (uses_right (mentions true v scope) (block_mentions body scope d) h))
     term (ElseIf v body) scope d h = both (mentions true v scope) (block_mentions body scope d) (value v scope) (block body scope d (uses_right (mentions true v scope) (block_mentions body scope d) h))

@@ -7,7 +7,7 @@ use Rattle.acpi_state.specs.Objects.{MethodObject, ContainerObject, RegionObject
 use Rattle.acpi_state.specs.FieldActs.{region_letters, field_letters}
 use Rattle.acpi_state.specs.Outcomes.{choose}
 use Rattle.asl_tree.specs.declared.path.Path.{Path}
-use Rattle.asl_tree.specs.Names.{place_of, denoted, search_path, first_of}
+use Rattle.asl_tree.specs.Names.{declared_path, denoted, search_path, first_of}
 use Rattle.asl_tree.specs.Tree.{At, Tree, Return, Name, Alias, External, Method, Mutex, Event, Container', Scope, Fill, Trees, no_trees, tree, OperationRegion, Field, IndexField, BankField, CreateField, If, ElseIf, Else, While, For, Print, Switch, Case, Default}
 use Rattle.asl_meaning.specs.Declarations.{Declared, As, AliasOf, Declarations, is_named, scope_path, with_declared, declare, as_buffer_field, nothing_declared}
 use Rattle.acpi_names.specs.Errors.{NameError, Missing, NoContainer, Anything, AnObject, ARegion, AUnit, unless, Whole, use_errors, declared_errors, is_container, final, step_errors}
@@ -106,11 +106,13 @@ module _ (gone : AbsolutePath → Bool) (w : Whole) where
   gone_term _ scope d e h = absurd cc
 
   -- a test or a value, and terms
-  with_body : (v : Tree) (body : Trees) (scope : AbsolutePath) (d d' : Declarations) → (AreSpared gone has (block_mentions body scope d) → all_errors w (block_mentions body scope d) d ≡ [] → Drops gone (block_mentions body scope d) (block_mentions (left_terms body) scope d')) → AreSpared gone has (mentions true v scope ++ block_mentions body scope d) → all_errors w (mentions true v scope ++ block_mentions body scope d) d ≡ [] → Drops gone (mentions true v scope ++ block_mentions body scope d) (mentions true v scope ++ block_mentions (left_terms body) scope d')
+  with_body : (v : Tree) (body : Trees) (scope : AbsolutePath) (d d' : Declarations) → (AreSpared gone has (block_mentions body scope d) → all_errors w (block_mentions body scope d) d ≡ [] → Drops gone (block_mentions body scope d) (block_mentions (left_terms body) scope d')) → AreSpared gone has (mentions true v scope ++ block_mentions body scope d)
+      → all_errors w (mentions true v scope ++ block_mentions body scope d) d ≡ [] → Drops gone (mentions true v scope ++ block_mentions body scope d) (mentions true v scope ++ block_mentions (left_terms body) scope d')
   with_body v body scope d d' go spared h =
       drops_both gone (value v scope) (go (spared_right (mentions true v scope) (block_mentions body scope d) spared) (errors_right (mentions true v scope) (block_mentions body scope d) d d (quiet true v scope d) h))
 
-  next : (t : Tree) (ts : Trees) (scope : AbsolutePath) (d d' : Declarations) (b : Bool) → declares_descriptor t ≡ b → Before gone d d' → (declares_descriptor t ≡ false → Drops gone (term_mentions t scope d) (term_mentions (left_term t) scope d')) → (declares_descriptor t ≡ true → Drops gone (term_mentions t scope d) []) → ((d'' : Declarations) → Before gone (declare t scope d) d'' → Drops gone (block_mentions ts scope (declare t scope d)) (block_mentions (left_terms ts) scope d'')) → Drops gone (term_mentions t scope d ++ block_mentions ts scope (declare t scope d)) (block_mentions (if b then left_terms ts else tree (left_term t) (left_terms ts)) scope d')
+  next : (t : Tree) (ts : Trees) (scope : AbsolutePath) (d d' : Declarations) (b : Bool) → declares_descriptor t ≡ b → Before gone d d' → (declares_descriptor t ≡ false → Drops gone (term_mentions t scope d) (term_mentions (left_term t) scope d')) → (declares_descriptor t ≡ true → Drops gone (term_mentions t scope d) [])
+      → ((d'' : Declarations) → Before gone (declare t scope d) d'' → Drops gone (block_mentions ts scope (declare t scope d)) (block_mentions (left_terms ts) scope d'')) → Drops gone (term_mentions t scope d ++ block_mentions ts scope (declare t scope d)) (block_mentions (if b then left_terms ts else tree (left_term t) (left_terms ts)) scope d')
   next t ts scope d d' true e before stays drops go = drops_both gone (drops e) (go d' (behind_dropped t scope d d' before (drops e)))
   next t ts scope d d' false e before stays drops go = drops_both gone (stays e) (go (declare (left_term t) scope d') (behind t (left_term t) scope d d' before (stays e)))
 
@@ -121,13 +123,13 @@ module _ (gone : AbsolutePath → Bool) (w : Whole) where
     term (Alias from source at name) scope d d' before e marks spared h = drops_same gone (Used' AnObject from source scope ∷ Declares at name (AliasOf source scope) scope ∷ []) (tt, (marks, tt))
     term (External here at name type parameters) scope d d' before e marks spared h = drops_same gone (Outside here at name (record { type = type; parameters = parameters }) scope ∷ []) (marks, tt)
     term (Method at name flags body) scope d d' before e marks spared h =
-        let path : AbsolutePath = place_of name scope in
+        let path : AbsolutePath = declared_path name scope in
         Stayed (TwinDeclares at at name (As (MethodObject flags)) scope) marks.0
         (block body path (with_declared path (As (MethodObject flags)) d) (with_declared path (As (MethodObject flags)) d') (in_new path (As (MethodObject flags)) d d' marks.0 before) marks.1 spared.1 (right_none (declared_errors w at name scope d) _ h))
     term (Mutex at name level) scope d d' before e marks spared h = drops_same gone (Declares at name (As (MutexObject level)) scope ∷ []) (marks, tt)
     term (Event at name) scope d d' before e marks spared h = drops_same gone (Declares at name (As EventObject) scope ∷ []) (marks, tt)
     term (Container' kind at name body) scope d d' before e marks spared h =
-        let path : AbsolutePath = place_of name scope in
+        let path : AbsolutePath = declared_path name scope in
         Stayed (TwinDeclares at at name (As (ContainerObject kind)) scope) marks.0
         (block body path (with_declared path (As (ContainerObject kind)) d) (with_declared path (As (ContainerObject kind)) d') (in_new path (As (ContainerObject kind)) d d' marks.0 before) marks.1 spared.1 (right_none (declared_errors w at name scope d) _ h))
     term (Scope here at name body) scope d d' before e marks spared h =

@@ -3,8 +3,10 @@ use Rattle.std.specs.Prelude.{◌≡◌, Bool, true, false, ◌||◌, if◌then�
 use Rattle.acpi_values.specs.Paths.{AbsolutePath, is_same_path}
 use Rattle.acpi_state.specs.Objects.{MethodObject, ContainerObject}
 use Rattle.asl_tree.specs.FieldItems.{FieldItem, UnitItem, SkipItem, OffsetItem, AccessItem, ConnectionItem}
-use Rattle.asl_tree.specs.Names.{place_of}
-use Rattle.asl_tree.specs.Tree.{Tree, Name, Alias, External, Method, Mutex, Event, Container', Scope, Fill, Trees, no_trees, tree, OperationRegion, Field, IndexField, BankField, CreateField, UnitName, If, ElseIf, Else, While, For, Switch, Case, Default}
+use Rattle.asl_tree.specs.Names.{declared_path}
+use Rattle.asl_tree.specs.Tree.{Tree, Name, Alias, External, Method, Mutex, Event, Container', Scope, Fill}
+use Rattle.asl_tree.specs.Tree.{Trees, no_trees, tree, OperationRegion, Field, IndexField, BankField}
+use Rattle.asl_tree.specs.Tree.{CreateField, UnitName, If, ElseIf, Else, While, For, Switch, Case, Default}
 use Rattle.asl_meaning.specs.Declarations.{As, Declarations, nothing_declared, declarations, is_named, with_declared, scope_path, declare}
 use Rattle.acpi_names.specs.Errors.{unit_path}
 use Rattle.acpi_names.specs.Mentions.{block_mentions}
@@ -42,7 +44,7 @@ abbrev mutual
 module _ (gone : AbsolutePath → Bool) where
   abbrev pub MarksItems : List (FieldItem UnitName) → AbsolutePath → Type 0
   MarksItems [] scope = Unit {0}
-  MarksItems (UnitItem name bits ∷ items) scope = (gone (place_of (unit_path name.segment) scope) ≡ false) × MarksItems items scope
+  MarksItems (UnitItem name bits ∷ items) scope = (gone (declared_path (unit_path name.segment) scope) ≡ false) × MarksItems items scope
   MarksItems (SkipItem bits ∷ items) scope = MarksItems items scope
   MarksItems (OffsetItem bytes ∷ items) scope = MarksItems items scope
   MarksItems (AccessItem access attribute length ∷ items) scope = MarksItems items scope
@@ -50,13 +52,15 @@ module _ (gone : AbsolutePath → Bool) where
 
   abbrev mutual
     pub Marks : Tree → AbsolutePath → Declarations → Type 0
-    Marks (Name at name value) scope d = gone (place_of name scope) ≡ is_fill value
-    Marks (Alias from source at name) scope d = gone (place_of name scope) ≡ false
-    Marks (External here at name type parameters) scope d = gone (place_of name scope) ≡ false
-    Marks (Method at name flags body) scope d = (gone (place_of name scope) ≡ false) × AllMarks body (place_of name scope) (with_declared (place_of name scope) (As (MethodObject flags)) d)
-    Marks (Mutex at name level) scope d = gone (place_of name scope) ≡ false
-    Marks (Event at name) scope d = gone (place_of name scope) ≡ false
-    Marks (Container' kind at name body) scope d = (gone (place_of name scope) ≡ false) × AllMarks body (place_of name scope) (with_declared (place_of name scope) (As (ContainerObject kind)) d)
+    Marks (Name at name value) scope d = gone (declared_path name scope) ≡ is_fill value
+    Marks (Alias from source at name) scope d = gone (declared_path name scope) ≡ false
+    Marks (External here at name type parameters) scope d = gone (declared_path name scope) ≡ false
+    Marks (Method at name flags body) scope d = (gone (declared_path name scope) ≡ false)
+        × AllMarks body (declared_path name scope) (with_declared (declared_path name scope) (As (MethodObject flags)) d)
+    Marks (Mutex at name level) scope d = gone (declared_path name scope) ≡ false
+    Marks (Event at name) scope d = gone (declared_path name scope) ≡ false
+    Marks (Container' kind at name body) scope d = (gone (declared_path name scope) ≡ false)
+        × AllMarks body (declared_path name scope) (with_declared (declared_path name scope) (As (ContainerObject kind)) d)
     Marks (Scope here at name body) scope d = AllMarks body (scope_path d name scope) d
     Marks (If test body) scope d = AllMarks body scope d
     Marks (ElseIf test body) scope d = AllMarks body scope d
@@ -66,11 +70,11 @@ module _ (gone : AbsolutePath → Bool) where
     Marks (Switch value cases) scope d = AllMarks cases scope d
     Marks (Case value body) scope d = AllMarks body scope d
     Marks (Default body) scope d = AllMarks body scope d
-    Marks (OperationRegion at name space args) scope d = gone (place_of name scope) ≡ false
+    Marks (OperationRegion at name space args) scope d = gone (declared_path name scope) ≡ false
     Marks (Field here from region flags items) scope d = MarksItems items scope
     Marks (IndexField here from index to register flags items) scope d = MarksItems items scope
     Marks (BankField here from region to bank value flags items) scope d = MarksItems items scope
-    Marks (CreateField form args at name) scope d = gone (place_of name scope) ≡ false
+    Marks (CreateField form args at name) scope d = gone (declared_path name scope) ≡ false
     Marks t scope d = Unit {0}
 
     pub AllMarks : Trees → AbsolutePath → Declarations → Type 0
@@ -80,9 +84,11 @@ module _ (gone : AbsolutePath → Bool) where
 -- the paths of the descriptors that terms declare
 abbrev mutual
   pub descriptors_of : Tree → AbsolutePath → Declarations → List AbsolutePath
-  descriptors_of (Name at name value) scope d = if is_fill value then place_of name scope ∷ [] else []
-  descriptors_of (Method at name flags body) scope d = descriptors body (place_of name scope) (with_declared (place_of name scope) (As (MethodObject flags)) d)
-  descriptors_of (Container' kind at name body) scope d = descriptors body (place_of name scope) (with_declared (place_of name scope) (As (ContainerObject kind)) d)
+  descriptors_of (Name at name value) scope d = if is_fill value then declared_path name scope ∷ [] else []
+  descriptors_of (Method at name flags body) scope d =
+      descriptors body (declared_path name scope) (with_declared (declared_path name scope) (As (MethodObject flags)) d)
+  descriptors_of (Container' kind at name body) scope d =
+      descriptors body (declared_path name scope) (with_declared (declared_path name scope) (As (ContainerObject kind)) d)
   descriptors_of (Scope here at name body) scope d = descriptors body (scope_path d name scope) d
   descriptors_of (If test body) scope d = descriptors body scope d
   descriptors_of (ElseIf test body) scope d = descriptors body scope d
@@ -108,4 +114,5 @@ is_descriptor program = is_one_of (descriptors program [] nothing_declared)
 
 -- no use denotes a descriptor, no alias leads to one, and nothing is declared directly below one
 abbrev pub DescriptorsAreApart : Trees → Type 0
-DescriptorsAreApart program = AreSpared (is_descriptor program) (is_named (declarations program)) (block_mentions program [] nothing_declared)
+DescriptorsAreApart program =
+    AreSpared (is_descriptor program) (is_named (declarations program)) (block_mentions program [] nothing_declared)

@@ -1,7 +1,7 @@
 -- Mentions that use none of some paths, and that declare nothing directly below one.
 use Rattle.std.specs.Prelude.{◌≡◌, Bool, false, List, [], ◌∷◌}
 use Rattle.acpi_values.specs.Paths.{AbsolutePath}
-use Rattle.asl_tree.specs.Names.{place_of}
+use Rattle.asl_tree.specs.Names.{declared_path}
 use Rattle.acpi_names.specs.Mentions.{Mention, Used', Called, Declares, Opens}
 use Rattle.unused_names.specs.Unused.{Spares, is_below}
 
@@ -18,7 +18,7 @@ module _ (gone has : AbsolutePath → Bool) where
   UseOthers (m ∷ ms) = UsesOther m × UseOthers ms
 
   abbrev pub IsNotBelow : Mention → Type 0
-  IsNotBelow (Declares at name as' scope) = is_below gone has (place_of name scope) ≡ false
+  IsNotBelow (Declares at name as' scope) = is_below gone has (declared_path name scope) ≡ false
   IsNotBelow _ = Unit {0}
 
   abbrev pub AreNotBelow : List Mention → Type 0

@@ -3,7 +3,7 @@ use Rattle.std.proofs.Common.{◌≡◌, suc, Bool, true, false, List, [], ◌�
 use Rattle.acpi_values.specs.Paths.{AbsolutePath}
 use Rattle.acpi_state.specs.Objects.{MethodObject, ContainerObject, root_objects}
 use Rattle.asl_meaning.specs.Declarations.{As, Declarations, nothing_declared, is_named, scope_path, with_declared, declare, declare_all, declarations, calls, calls_all, called, declared_kinds, external_names, as_known, externals, known_of}
-use Rattle.asl_tree.specs.Names.{place_of, denoted}
+use Rattle.asl_tree.specs.Names.{declared_path, denoted}
 use Rattle.asl_tree.specs.Tree.{Tree, Call, Apply, Buffer, Package, VarPackage, CondRefOf, Return, Name, External, Method, Container', Scope, If, ElseIf, Else, While, For, Print, OperationRegion, BankField, CreateField, Operated, Assigned, AssignedBy, Trees, no_trees, tree, count, Switch, Case, Default}
 use Rattle.acpi_names.specs.Errors.{whole_of}
 use Rattle.acpi_names.proofs.Mentions.{right_nil}
@@ -55,8 +55,8 @@ all_declared ts scope d h = guarded_declares (leading ts) (behind ts) scope d �
 
 mutual
   pub wrapped_declares : (t : Tree) (scope : AbsolutePath) (d : Declarations) → declare (wrapped t) scope d ≡ declare t scope d
-  wrapped_declares (Method at name flags body) scope d = all_declared body (place_of name scope) (with_declared (place_of name scope) (As (MethodObject flags)) d) (behind_declares body (place_of name scope) (with_declared (place_of name scope) (As (MethodObject flags)) d))
-  wrapped_declares (Container' kind at name body) scope d = all_declared body (place_of name scope) (with_declared (place_of name scope) (As (ContainerObject kind)) d) (behind_declares body (place_of name scope) (with_declared (place_of name scope) (As (ContainerObject kind)) d))
+  wrapped_declares (Method at name flags body) scope d = all_declared body (declared_path name scope) (with_declared (declared_path name scope) (As (MethodObject flags)) d) (behind_declares body (declared_path name scope) (with_declared (declared_path name scope) (As (MethodObject flags)) d))
+  wrapped_declares (Container' kind at name body) scope d = all_declared body (declared_path name scope) (with_declared (declared_path name scope) (As (ContainerObject kind)) d) (behind_declares body (declared_path name scope) (with_declared (declared_path name scope) (As (ContainerObject kind)) d))
   wrapped_declares (Scope here at name body) scope d = all_declared body (scope_path d name scope) d (behind_declares body (scope_path d name scope) d)
   wrapped_declares (If test body) scope d = all_declared body scope d (behind_declares body scope d)
   wrapped_declares (ElseIf test body) scope d = all_declared body scope d (behind_declares body scope d)
@@ -123,8 +123,8 @@ module _ (has : AbsolutePath → Bool) where
     wrapped_calls (CreateField form args at name) scope d = args_call args scope d
     wrapped_calls (Return value) scope d = wrapped_calls value scope d
     wrapped_calls (Name at name value) scope d = wrapped_calls value scope d
-    wrapped_calls (Method at name flags body) scope d = all_called body (place_of name scope) (with_declared (place_of name scope) (As (MethodObject flags)) d) (behind_call body (place_of name scope) (with_declared (place_of name scope) (As (MethodObject flags)) d))
-    wrapped_calls (Container' kind at name body) scope d = all_called body (place_of name scope) (with_declared (place_of name scope) (As (ContainerObject kind)) d) (behind_call body (place_of name scope) (with_declared (place_of name scope) (As (ContainerObject kind)) d))
+    wrapped_calls (Method at name flags body) scope d = all_called body (declared_path name scope) (with_declared (declared_path name scope) (As (MethodObject flags)) d) (behind_call body (declared_path name scope) (with_declared (declared_path name scope) (As (MethodObject flags)) d))
+    wrapped_calls (Container' kind at name body) scope d = all_called body (declared_path name scope) (with_declared (declared_path name scope) (As (ContainerObject kind)) d) (behind_call body (declared_path name scope) (with_declared (declared_path name scope) (As (ContainerObject kind)) d))
     wrapped_calls (Scope here at name body) scope d = all_called body (scope_path d name scope) d (behind_call body (scope_path d name scope) d)
     wrapped_calls _ scope d = refl
 

@@ -8,9 +8,10 @@ use Rattle.acpi_state.specs.FieldActs.{region_letters, field_letters}
 use Rattle.acpi_state.specs.Outcomes.{choose}
 use Rattle.asl_meaning.specs.Declarations.{As, Declarations, nothing_declared, is_named, scope_path, with_declared, declare, declare_all}
 use Rattle.asl_meaning.specs.Meaning.{spot_form}
-use Rattle.asl_tree.specs.Names.{place_of, denoted}
+use Rattle.asl_tree.specs.Names.{declared_path, denoted}
 use Rattle.asl_tree.specs.Tree.{Tree, Use, Call, Apply, Buffer, Package, VarPackage, CondRefOf, Return, Name, External, Method, Container', Scope, If, ElseIf, Else, While, For, Print, OperationRegion, BankField, CreateField, Operated, Assigned, AssignedBy, Trees, no_trees, tree, count, Switch, Case, Default}
-use Rattle.acpi_names.specs.Errors.{NameError, Asked, Anything, AUnit, ARegion, Whole, whole_of, asked_by, use_errors, call_errors, declared_errors, scope_errors, items_errors, cond_errors, names, names_all, asked_types, used_types, letter_types, spot_form_types, element_types, types, spot_types, first_types, operand_types, spot_types_all, element_types_all, types_all, unless, takes, name_end, WrongCount, name_errors, type_errors}
+use Rattle.acpi_names.specs.Errors.{NameError, Asked, Anything, AUnit, ARegion, Whole, whole_of, asked_by, use_errors, call_errors, declared_errors, scope_errors, items_errors, cond_errors, names, names_all, asked_types, used_types}
+use Rattle.acpi_names.specs.Errors.{letter_types, spot_form_types, element_types, types, spot_types, first_types, operand_types, spot_types_all, element_types_all, types_all, unless, takes, name_end, WrongCount, name_errors, type_errors}
 use Rattle.acpi_names.proofs.Mentions.{right_nil}
 use Rattle.wrapped_externals.specs.Wraps.{starts_branch, leading, in_if, guarded, wrapped, wrapped_args, behind, wrapped_all}
 use Rattle.asl_lower.specs.Nests.{joined}
@@ -90,7 +91,7 @@ module _ (whole : Whole) where
     wrapped_names (Return value) scope d = wrapped_names value scope d
     wrapped_names (Name at name value) scope d = ap (λ es. declared_errors whole at name scope d ++ es) (wrapped_names value scope d)
     wrapped_names (Method at name flags body) scope d =
-        ap (λ es. declared_errors whole at name scope d ++ es) (all_names body (place_of name scope) (with_declared (place_of name scope) (As (MethodObject flags)) d) (behind_named body (place_of name scope) (with_declared (place_of name scope) (As (MethodObject flags)) d)))
+        ap (λ es. declared_errors whole at name scope d ++ es) (all_names body (declared_path name scope) (with_declared (declared_path name scope) (As (MethodObject flags)) d) (behind_named body (declared_path name scope) (with_declared (declared_path name scope) (As (MethodObject flags)) d)))
     wrapped_names (If test body) scope d = both (N (F test) scope d) (Ns (wrapped_all body) scope d) (N test scope d) (Ns body scope d) (wrapped_names test scope d) (all_names body scope d (behind_named body scope d))
     wrapped_names (ElseIf test body) scope d = both (N (F test) scope d) (Ns (wrapped_all body) scope d) (N test scope d) (Ns body scope d) (wrapped_names test scope d) (all_names body scope d (behind_named body scope d))
     wrapped_names (Else body) scope d = all_names body scope d (behind_named body scope d)
@@ -108,7 +109,7 @@ module _ (whole : Whole) where
         ap (λ es. use_errors whole from region scope ++ (use_errors whole to bank scope ++ (es ++ items_errors whole items scope d))) (wrapped_names value scope d)
     wrapped_names (CreateField form args at name) scope d = ap (λ es. es ++ declared_errors whole at name scope d) (args_named args scope d)
     wrapped_names (Container' kind at name body) scope d =
-        ap (λ es. declared_errors whole at name scope d ++ es) (all_names body (place_of name scope) (with_declared (place_of name scope) (As (ContainerObject kind)) d) (behind_named body (place_of name scope) (with_declared (place_of name scope) (As (ContainerObject kind)) d)))
+        ap (λ es. declared_errors whole at name scope d ++ es) (all_names body (declared_path name scope) (with_declared (declared_path name scope) (As (ContainerObject kind)) d) (behind_named body (declared_path name scope) (with_declared (declared_path name scope) (As (ContainerObject kind)) d)))
     wrapped_names (Scope here at name body) scope d = ap (λ es. (use_errors whole at name scope ++ scope_errors whole here at name scope d) ++ es) (all_names body (scope_path d name scope) d (behind_named body (scope_path d name scope) d))
     wrapped_names _ scope d = refl
 
@@ -185,8 +186,8 @@ module _ (whole : Whole) where
     wrapped_types (CreateField form args at name) scope = operands_typed Anything (field_letters form) args scope
     wrapped_types (Return value) scope = wrapped_types value scope
     wrapped_types (Name at name value) scope = wrapped_types value scope
-    wrapped_types (Method at name flags body) scope = all_types body (place_of name scope) (behind_typed body (place_of name scope))
-    wrapped_types (Container' kind at name body) scope = all_types body (place_of name scope) (behind_typed body (place_of name scope))
+    wrapped_types (Method at name flags body) scope = all_types body (declared_path name scope) (behind_typed body (declared_path name scope))
+    wrapped_types (Container' kind at name body) scope = all_types body (declared_path name scope) (behind_typed body (declared_path name scope))
     wrapped_types (Scope here at name body) scope = all_types body (choose (denoted (is_named whole.all) name scope) [] (λ path. path)) (behind_typed body (choose (denoted (is_named whole.all) name scope) [] (λ path. path)))
     wrapped_types _ scope = refl
 

@@ -17,44 +17,44 @@ use Rattle.asl_tree.specs.Tree.{At, Tree, Integer, String, Omitted, Use, Package
 use Rattle.asl_tree.specs.View.{fits, form, operands_as, apply_of, operated, symbol_of, buffer, body_bytes, packaged, counted, items_in, tree_of, row_trees}
 use Rattle.acpi_names.specs.Walked.{OfForm, term_shape}
 use Rattle.wrapped_externals.specs.Kinds.{tree_kind, shape_kind}
-use Rattle.wrapped_externals.specs.declared.kind.Kind.{Kind}
+use Rattle.wrapped_externals.specs.declared.kind.TermRole.{TermRole}
 
-items_kind : (o : Option (List (FieldItem UnitName))) (made : List (FieldItem UnitName) → Tree) → ((items : List (FieldItem UnitName)) → tree_kind (made items) ≡ Kind.Other) → tree_kind (choose o Misshapen made) ≡ Kind.Other
+items_kind : (o : Option (List (FieldItem UnitName))) (made : List (FieldItem UnitName) → Tree) → ((items : List (FieldItem UnitName)) → tree_kind (made items) ≡ TermRole.Other) → tree_kind (choose o Misshapen made) ≡ TermRole.Other
 items_kind None made h = refl
 items_kind (Some items) made h = h items
 
-apply_kind : (op : Plain) (args : Trees) → tree_kind (apply_of op args) ≡ Kind.Other
+apply_kind : (op : Plain) (args : Trees) → tree_kind (apply_of op args) ≡ TermRole.Other
 apply_kind (Plain.Number IntOp.LNotEqual) args = refl
 apply_kind (Plain.Number IntOp.LLessEqual) args = refl
 apply_kind (Plain.Number IntOp.LGreaterEqual) args = refl
 apply_kind op args = refl
 
-buffer_kind : (size : Tree) (bytes : List ℕ) → tree_kind (buffer size bytes) ≡ Kind.Other
+buffer_kind : (size : Tree) (bytes : List ℕ) → tree_kind (buffer size bytes) ≡ TermRole.Other
 buffer_kind Omitted bytes = refl
 buffer_kind size bytes = refl
 
-counted_kind : (n : ℕ) (elements : Trees) → tree_kind (counted n elements) ≡ Kind.Other
+counted_kind : (n : ℕ) (elements : Trees) → tree_kind (counted n elements) ≡ TermRole.Other
 counted_kind n elements = by_less (nat_le n 255)
   where
-    by_less : (c : Bool) → tree_kind (if c then Package n elements else VarPackage (Integer n) elements) ≡ Kind.Other
+    by_less : (c : Bool) → tree_kind (if c then Package n elements else VarPackage (Integer n) elements) ≡ TermRole.Other
     by_less true = refl
     by_less false = refl
 
-packaged_kind : (size : Tree) (elements : Trees) → tree_kind (packaged size elements) ≡ Kind.Other
+packaged_kind : (size : Tree) (elements : Trees) → tree_kind (packaged size elements) ≡ TermRole.Other
 packaged_kind Omitted elements = counted_kind (count elements) elements
 packaged_kind (Integer n) elements = counted_kind n elements
 packaged_kind size elements = refl
 
-operated_kind : (op : Plain) (args : Trees) → tree_kind (operated op args) ≡ Kind.Other
+operated_kind : (op : Plain) (args : Trees) → tree_kind (operated op args) ≡ TermRole.Other
 operated_kind (Plain.Number IntOp.LNotEqual) args = refl
 operated_kind (Plain.Number IntOp.LLessEqual) args = refl
 operated_kind (Plain.Number IntOp.LGreaterEqual) args = refl
 operated_kind op args = refl
 
-symbol_kind : (op : Plain) (args : Trees) → tree_kind (symbol_of op args) ≡ Kind.Other
+symbol_kind : (op : Plain) (args : Trees) → tree_kind (symbol_of op args) ≡ TermRole.Other
 symbol_kind op args = by_fit (fits (row_of op).operands args)
   where
-    by_fit : (c : Bool) → tree_kind (if c then operated op (operands_as (row_of op).operands args) else Misshapen) ≡ Kind.Other
+    by_fit : (c : Bool) → tree_kind (if c then operated op (operands_as (row_of op).operands args) else Misshapen) ≡ TermRole.Other
     by_fit true = operated_kind op (operands_as (row_of op).operands args)
     by_fit false = refl
 

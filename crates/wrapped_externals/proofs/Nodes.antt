@@ -15,7 +15,7 @@ use Rattle.acpi_names.proofs.Trees.{form_tree, call_tree}
 use Rattle.asl_lower.specs.Nests.{joined, backwards}
 use Rattle.asl_lower.proofs.Backwards.{pushed, behind_all, joined_none}
 use Rattle.asl_lower.proofs.Lowered.{popped_size}
-use Rattle.wrapped_externals.specs.declared.kind.Kind.{Kind}
+use Rattle.wrapped_externals.specs.declared.kind.TermRole.{TermRole}
 use Rattle.wrapped_externals.specs.Kinds.{tree_kind, shape_kind}
 use Rattle.wrapped_externals.specs.Wraps.{leading, in_if, guarded, wrapped, wrapped_args, behind, wrapped_all}
 use Rattle.wrapped_externals.specs.Nodes.{resumed, wrapped_body}
@@ -54,26 +54,26 @@ joined_joined no_trees us vs = refl
 joined_joined (tree t ts) us vs = ap (tree t) (joined_joined ts us vs)
 
 -- a node by its kind
-pub kind_tree : (node : Node) (k : Kind) → k ≡ shape_kind (term_shape node.term) → tree_kind (node_tree node) ≡ k
+pub kind_tree : (node : Node) (k : TermRole) → k ≡ shape_kind (term_shape node.term) → tree_kind (node_tree node) ≡ k
 kind_tree node k e = kind_is (record { id = node.id; place = node.place }) node.term ∙ sym e
 
-resumed_external : (run : Trees) (t : Tree) (ts : Trees) → tree_kind t ≡ Kind.External → resumed (joined run (tree t no_trees)) ts ≡ resumed run (tree t ts)
+resumed_external : (run : Trees) (t : Tree) (ts : Trees) → tree_kind t ≡ TermRole.External → resumed (joined run (tree t no_trees)) ts ≡ resumed run (tree t ts)
 resumed_external run (External here at name type parameters) ts e = ap (λ us. guarded us (behind ts)) (joined_joined run (tree (External here at name type parameters) no_trees) (leading ts))
 resumed_external run _ ts e = absurd cc
 
-resumed_branch : (run : Trees) (t : Tree) (ts : Trees) → tree_kind t ≡ Kind.Branch → resumed run (tree t ts) ≡ joined (in_if run true) (tree (wrapped t) (wrapped_all ts))
+resumed_branch : (run : Trees) (t : Tree) (ts : Trees) → tree_kind t ≡ TermRole.Branch → resumed run (tree t ts) ≡ joined (in_if run true) (tree (wrapped t) (wrapped_all ts))
 resumed_branch run (Else body) ts e = ap (λ us. guarded us (tree (wrapped (Else body)) (wrapped_all ts))) (joined_none run)
 resumed_branch run (ElseIf test body) ts e = ap (λ us. guarded us (tree (wrapped (ElseIf test body)) (wrapped_all ts))) (joined_none run)
 resumed_branch run _ ts e = absurd cc
 
-resumed_other : (run : Trees) (t : Tree) (ts : Trees) → tree_kind t ≡ Kind.Other → resumed run (tree t ts) ≡ joined (in_if run false) (tree (wrapped t) (wrapped_all ts))
+resumed_other : (run : Trees) (t : Tree) (ts : Trees) → tree_kind t ≡ TermRole.Other → resumed run (tree t ts) ≡ joined (in_if run false) (tree (wrapped t) (wrapped_all ts))
 resumed_other run (Else body) ts e = absurd cc
 resumed_other run (ElseIf test body) ts e = absurd cc
 resumed_other run (External here at name type parameters) ts e = absurd cc
 resumed_other run t ts e = ap (λ us. guarded us (tree (wrapped t) (wrapped_all ts))) (joined_none run)
 
 -- an External behind a run
-pub next_external : (made run new : List Node) (node : Node) (k : Kind) (ts : Trees) → new ≡ run ++ node ∷ [] → k ≡ shape_kind (term_shape node.term) → k ≡ Kind.External
+pub next_external : (made run new : List Node) (node : Node) (k : TermRole) (ts : Trees) → new ≡ run ++ node ∷ [] → k ≡ shape_kind (term_shape node.term) → k ≡ TermRole.External
     → joined (trees_of made) (resumed (trees_of new) ts) ≡ joined (trees_of made) (resumed (trees_of run) (tree (node_tree node) ts))
 next_external made run new node k ts e shape is =
     ap (λ us. joined (trees_of made) (resumed us ts)) (ap trees_of e ∙ behind_all run node) ∙ ap (joined (trees_of made)) (resumed_external (trees_of run) (node_tree node) ts (kind_tree node k shape ∙ is))
@@ -89,12 +89,12 @@ next_put made run new rest node kept ts e f h =
     ∙ joined_joined (joined (trees_of made) first) term (wrapped_all ts) ∙ joined_joined (trees_of made) first (tree (wrapped (node_tree node)) (wrapped_all ts))
     ∙ ap (joined (trees_of made)) (sym h)
 
-pub next_branch : (made run new rest : List Node) (node : Node) (k : Kind) (ts : Trees) → rest ≡ [] → trees_of new ≡ joined (joined (trees_of made) (in_if (trees_of run) true)) (tree (wrapped (node_tree node)) no_trees)
-    → k ≡ shape_kind (term_shape node.term) → k ≡ Kind.Branch → joined (trees_of new) (resumed (trees_of rest) ts) ≡ joined (trees_of made) (resumed (trees_of run) (tree (node_tree node) ts))
+pub next_branch : (made run new rest : List Node) (node : Node) (k : TermRole) (ts : Trees) → rest ≡ [] → trees_of new ≡ joined (joined (trees_of made) (in_if (trees_of run) true)) (tree (wrapped (node_tree node)) no_trees)
+    → k ≡ shape_kind (term_shape node.term) → k ≡ TermRole.Branch → joined (trees_of new) (resumed (trees_of rest) ts) ≡ joined (trees_of made) (resumed (trees_of run) (tree (node_tree node) ts))
 next_branch made run new rest node k ts e f shape is = next_put made run new rest node true ts e f (resumed_branch (trees_of run) (node_tree node) ts (kind_tree node k shape ∙ is))
 
-pub next_other : (made run new rest : List Node) (node : Node) (k : Kind) (ts : Trees) → rest ≡ [] → trees_of new ≡ joined (joined (trees_of made) (in_if (trees_of run) false)) (tree (wrapped (node_tree node)) no_trees)
-    → k ≡ shape_kind (term_shape node.term) → k ≡ Kind.Other → joined (trees_of new) (resumed (trees_of rest) ts) ≡ joined (trees_of made) (resumed (trees_of run) (tree (node_tree node) ts))
+pub next_other : (made run new rest : List Node) (node : Node) (k : TermRole) (ts : Trees) → rest ≡ [] → trees_of new ≡ joined (joined (trees_of made) (in_if (trees_of run) false)) (tree (wrapped (node_tree node)) no_trees)
+    → k ≡ shape_kind (term_shape node.term) → k ≡ TermRole.Other → joined (trees_of new) (resumed (trees_of rest) ts) ≡ joined (trees_of made) (resumed (trees_of run) (tree (node_tree node) ts))
 next_other made run new rest node k ts e f shape is = next_put made run new rest node false ts e f (resumed_other (trees_of run) (node_tree node) ts (kind_tree node k shape ∙ is))
 
 -- what is put behind a run

@@ -27,7 +27,7 @@ use Rattle.asl_lower.specs.Nests.{backwards}
 use Rattle.asl_lower.proofs.Backwards.{pushed}
 use Rattle.term_places.specs.Places.{holds_terms, inner_places, row_places, term_places, places_of}
 use Rattle.term_places.proofs.Places.{form_places, no_places, one_place, places_cons, places-append}
-use Rattle.wrapped_externals.specs.declared.kind.Kind.{Kind}
+use Rattle.wrapped_externals.specs.declared.kind.TermRole.{TermRole}
 use Rattle.wrapped_externals.specs.Kinds.{flagged, tree_kind, shape_kind}
 use Rattle.wrapped_externals.specs.Starts.{is_free, inner_starts, starts, with_ifs}
 use Rattle.wrapped_externals.specs.Nodes.{no_flags, pending}
@@ -202,16 +202,16 @@ pending_put (suc n) us c (q ∷ qs) rs e f same = ap (λ b. with_ifs (b ∷ (no_
     by_free true = ap (λ xs. q ∷ q ∷ xs) behind
     by_free false = ap (λ xs. q ∷ xs) behind
 
-starts_other : (inside : Bool) (t : Tree) (ts : Trees) → (tree_kind t ≡ Kind.External → ⊥) → starts inside (tree t ts) ≡ (false ∷ inner_starts t) ++ starts false ts
+starts_other : (inside : Bool) (t : Tree) (ts : Trees) → (tree_kind t ≡ TermRole.External → ⊥) → starts inside (tree t ts) ≡ (false ∷ inner_starts t) ++ starts false ts
 starts_other inside (External here at name type parameters) ts never = absurd (never refl)
 starts_other inside t ts never = refl
 
-free_branch : (t : Tree) (ts : Trees) → tree_kind t ≡ Kind.Branch → is_free (tree t ts) ≡ false
+free_branch : (t : Tree) (ts : Trees) → tree_kind t ≡ TermRole.Branch → is_free (tree t ts) ≡ false
 free_branch (Else body) ts e = refl
 free_branch (ElseIf test body) ts e = refl
 free_branch _ ts e = absurd cc
 
-free_other : (t : Tree) (ts : Trees) → tree_kind t ≡ Kind.Other → is_free (tree t ts) ≡ true
+free_other : (t : Tree) (ts : Trees) → tree_kind t ≡ TermRole.Other → is_free (tree t ts) ≡ true
 free_other (Else body) ts e = absurd cc
 free_other (ElseIf test body) ts e = absurd cc
 free_other (External here at name type parameters) ts e = absurd cc
@@ -221,38 +221,38 @@ no_flag_moves : (n : ℕ) (gs : List Bool) → no_flags n ++ (false ∷ gs) ≡ 
 no_flag_moves zero gs = refl
 no_flag_moves (suc n) gs = ap (λ fs. false ∷ fs) (no_flag_moves n gs)
 
-pending_external : (k : ℕ) (t : Tree) (ts : Trees) → tree_kind t ≡ Kind.External → pending (suc k) ts ≡ pending k (tree t ts)
+pending_external : (k : ℕ) (t : Tree) (ts : Trees) → tree_kind t ≡ TermRole.External → pending (suc k) ts ≡ pending k (tree t ts)
 pending_external zero (External here at name type parameters) ts e = refl
 pending_external (suc n) (External here at name type parameters) ts e = ap (λ fs. is_free ts ∷ fs) (sym (no_flag_moves n (starts true ts)))
 pending_external k _ ts e = absurd cc
 
 -- ---- the next term of a list
 
-not_branch : (c : Bool) → flagged c ≡ Kind.External → ⊥
+not_branch : (c : Bool) → flagged c ≡ TermRole.External → ⊥
 not_branch true e = absurd cc
 not_branch false e = absurd cc
 
-external_op : (op : Op) (args body : Trees) → shape_kind (OfForm op args body) ≡ Kind.External → holds_terms op ≡ false
+external_op : (op : Op) (args body : Trees) → shape_kind (OfForm op args body) ≡ TermRole.External → holds_terms op ≡ false
 external_op (Op.Declaration Declaration.External) args body e = refl
 external_op (Op.Control Control.ElseIf) args body e = absurd (not_branch (are 1 args) e)
 external_op (Op.Control Control.Else) args body e = absurd (not_branch (are 0 args) e)
 external_op _ args body e = absurd cc
 
 -- no terms stand in an External
-none_inside : (t : Term) → shape_kind (term_shape t) ≡ Kind.External → inner_places t ≡ []
+none_inside : (t : Term) → shape_kind (term_shape t) ≡ TermRole.External → inner_places t ≡ []
 unfolding inner_places
 none_inside (D.Form' op shape args shape' body) e = ap (λ c. if c then row_places body else []) (external_op op (row_trees args) (row_trees body) e)
 none_inside t e = refl
 
-pub external_alone : (node : Node) (k : Kind) → k ≡ shape_kind (term_shape node.term) → k ≡ Kind.External → term_places node ≡ node.place ∷ []
+pub external_alone : (node : Node) (k : TermRole) → k ≡ shape_kind (term_shape node.term) → k ≡ TermRole.External → term_places node ≡ node.place ∷ []
 external_alone node k shape is = ap (λ ps. node.place ∷ ps) (none_inside node.term (sym shape ∙ is))
 
-pub external_counts : (run new : List Node) (node : Node) (k : Kind) → new ≡ run ++ node ∷ [] → k ≡ shape_kind (term_shape node.term) → k ≡ Kind.External → length (places_of run) ≡ length run → length (places_of new) ≡ length new
+pub external_counts : (run new : List Node) (node : Node) (k : TermRole) → new ≡ run ++ node ∷ [] → k ≡ shape_kind (term_shape node.term) → k ≡ TermRole.External → length (places_of run) ≡ length run → length (places_of new) ≡ length new
 external_counts run new node k e shape is h =
     let one : places_of new ≡ places_of run ++ node.place ∷ [] = ap places_of e ∙ places-append run (node ∷ []) ∙ ap (λ ps. places_of run ++ ps) (one_place node ∙ external_alone node k shape is) in
     ap length one ∙ length-append (places_of run) (node.place ∷ []) ∙ ap (λ n. n + 1) h ∙ sym (length-append run (node ∷ [])) ∙ sym (ap length e)
 
-pub external_placed : (made run new : List Node) (node : Node) (k : Kind) (ts : Trees) (ps : List Place) → new ≡ run ++ node ∷ [] → k ≡ shape_kind (term_shape node.term) → k ≡ Kind.External
+pub external_placed : (made run new : List Node) (node : Node) (k : TermRole) (ts : Trees) (ps : List Place) → new ≡ run ++ node ∷ [] → k ≡ shape_kind (term_shape node.term) → k ≡ TermRole.External
     → places_of made ++ with_ifs (pending (length new) ts) (places_of new ++ ps) ≡ places_of made ++ with_ifs (pending (length run) (tree (node_tree node) ts)) (places_of run ++ (term_places node ++ ps))
 external_placed made run new node k ts ps e shape is =
     let size : length new ≡ suc (length run) = let l = ap length e ∙ length-append run (node ∷ []) in omega (arith, l) in
@@ -264,7 +264,7 @@ external_placed made run new node k ts ps e shape is =
 
 -- a term behind a run that is put
 put_placed : (made run new rest : List Node) (node : Node) (kept : Bool) (ts : Trees) (ps : List Place) → rest ≡ [] → length (places_of run) ≡ length run → IsShaped (node_tree node)
-    → (tree_kind (node_tree node) ≡ Kind.External → ⊥) → is_free (tree (node_tree node) ts) ≡ not kept
+    → (tree_kind (node_tree node) ≡ TermRole.External → ⊥) → is_free (tree (node_tree node) ts) ≡ not kept
     → places_of new ≡ (places_of made ++ with_ifs (not kept ∷ []) (places_of run)) ++ node.place ∷ with_ifs (inner_starts (node_tree node)) (inner_places node.term)
     → places_of new ++ with_ifs (pending (length rest) ts) (places_of rest ++ ps) ≡ places_of made ++ with_ifs (pending (length run) (tree (node_tree node) ts)) (places_of run ++ (term_places node ++ ps))
 put_placed made run new rest node kept ts ps e alone shaped never free f =
@@ -280,19 +280,19 @@ put_placed made run new rest node kept ts ps e alone shaped never free f =
     ap (λ ns. places_of new ++ with_ifs (pending (length ns) ts) (places_of ns ++ ps)) e ∙ ap (λ qs. places_of new ++ with_ifs (starts false ts) (qs ++ ps)) no_places
     ∙ ap (λ qs. qs ++ later) f ∙ append_assoc (places_of made ++ first) inner later ∙ append_assoc (places_of made) first (inner ++ later) ∙ ap (λ qs. places_of made ++ qs) (sym whole)
 
-branch_no_external : Kind.Branch ≡ Kind.External → ⊥
+branch_no_external : TermRole.Branch ≡ TermRole.External → ⊥
 branch_no_external e = absurd cc
 
-other_no_external : Kind.Other ≡ Kind.External → ⊥
+other_no_external : TermRole.Other ≡ TermRole.External → ⊥
 other_no_external e = absurd cc
 
-pub branch_placed : (made run new rest : List Node) (node : Node) (k : Kind) (ts : Trees) (ps : List Place) → rest ≡ [] → length (places_of run) ≡ length run → IsShaped (node_tree node) → k ≡ shape_kind (term_shape node.term) → k ≡ Kind.Branch
+pub branch_placed : (made run new rest : List Node) (node : Node) (k : TermRole) (ts : Trees) (ps : List Place) → rest ≡ [] → length (places_of run) ≡ length run → IsShaped (node_tree node) → k ≡ shape_kind (term_shape node.term) → k ≡ TermRole.Branch
     → places_of new ≡ (places_of made ++ with_ifs (not true ∷ []) (places_of run)) ++ node.place ∷ with_ifs (inner_starts (node_tree node)) (inner_places node.term)
     → places_of new ++ with_ifs (pending (length rest) ts) (places_of rest ++ ps) ≡ places_of made ++ with_ifs (pending (length run) (tree (node_tree node) ts)) (places_of run ++ (term_places node ++ ps))
 branch_placed made run new rest node k ts ps e alone shaped shape is f =
     let kind = kind_tree node k shape ∙ is in put_placed made run new rest node true ts ps e alone shaped (λ x. branch_no_external (sym kind ∙ x)) (free_branch (node_tree node) ts kind) f
 
-pub other_placed : (made run new rest : List Node) (node : Node) (k : Kind) (ts : Trees) (ps : List Place) → rest ≡ [] → length (places_of run) ≡ length run → IsShaped (node_tree node) → k ≡ shape_kind (term_shape node.term) → k ≡ Kind.Other
+pub other_placed : (made run new rest : List Node) (node : Node) (k : TermRole) (ts : Trees) (ps : List Place) → rest ≡ [] → length (places_of run) ≡ length run → IsShaped (node_tree node) → k ≡ shape_kind (term_shape node.term) → k ≡ TermRole.Other
     → places_of new ≡ (places_of made ++ with_ifs (not false ∷ []) (places_of run)) ++ node.place ∷ with_ifs (inner_starts (node_tree node)) (inner_places node.term)
     → places_of new ++ with_ifs (pending (length rest) ts) (places_of rest ++ ps) ≡ places_of made ++ with_ifs (pending (length run) (tree (node_tree node) ts)) (places_of run ++ (term_places node ++ ps))
 other_placed made run new rest node k ts ps e alone shaped shape is f =

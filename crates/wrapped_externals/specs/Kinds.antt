@@ -6,26 +6,26 @@ use Rattle.asl_tree.specs.declared.term.Op.{Op}
 use Rattle.asl_tree.specs.Tree.{Tree, External, ElseIf, Else}
 use Rattle.acpi_names.specs.Parts.{are, part_of}
 use Rattle.acpi_names.specs.Walked.{TermShape, OfForm}
-use Rattle.acpi_names.specs.declared.part.Part.{Part}
-use Rattle.acpi_names.specs.declared.part.Part.TheVariants as P
-use Rattle.wrapped_externals.specs.declared.kind.Kind.{Kind}
+use Rattle.acpi_names.specs.declared.part.NameRole.{NameRole}
+use Rattle.acpi_names.specs.declared.part.NameRole.TheVariants as P
+use Rattle.wrapped_externals.specs.declared.kind.TermRole.{TermRole}
 
-abbrev pub tree_kind : Tree → Kind
-tree_kind (External here at name type parameters) = Kind.External
-tree_kind (ElseIf test body) = Kind.Branch
-tree_kind (Else body) = Kind.Branch
-tree_kind _ = Kind.Other
+abbrev pub tree_kind : Tree → TermRole
+tree_kind (External here at name type parameters) = TermRole.External
+tree_kind (ElseIf test body) = TermRole.Branch
+tree_kind (Else body) = TermRole.Branch
+tree_kind _ = TermRole.Other
 
-abbrev pub flagged : Bool → Kind
-flagged true = Kind.Branch
-flagged false = Kind.Other
+abbrev pub flagged : Bool → TermRole
+flagged true = TermRole.Branch
+flagged false = TermRole.Other
 
-abbrev pub part_kind : Part → Kind
-part_kind (P.External type parameters) = Kind.External
-part_kind _ = Kind.Other
+abbrev pub part_kind : NameRole → TermRole
+part_kind (P.External type parameters) = TermRole.External
+part_kind _ = TermRole.Other
 
-abbrev pub shape_kind : TermShape → Kind
+abbrev pub shape_kind : TermShape → TermRole
 shape_kind (OfForm (Op.Declaration Declaration.External) args body) = part_kind (part_of (Op.Declaration Declaration.External) args body)
 shape_kind (OfForm (Op.Control Control.ElseIf) args body) = flagged (are 1 args)
 shape_kind (OfForm (Op.Control Control.Else) args body) = flagged (are 0 args)
-shape_kind _ = Kind.Other
+shape_kind _ = TermRole.Other

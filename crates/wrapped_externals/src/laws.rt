@@ -15,7 +15,8 @@ ghost use Rattle.wrapped_externals.specs.Wraps.{wrapped_all};
 /// A program has the same sessions with its Externals in Ifs.
 pub fn same_sessions()
     ensures { (width : Width) (known : Known) (terms : Trees) (there : Names) (n : ℕ) (answers : List Value) (requests : List Request)
-        → source_session width known (wrapped_all terms) there n answers requests ≡ source_session width known terms there n answers requests }
+        → source_session width known (wrapped_all terms) there n answers requests
+        ≡ source_session width known terms there n answers requests }
 {}
 
 /// It declares the same, and has the same errors of names and kinds.

@@ -11,7 +11,7 @@ ghost use Rattle.wrapped_externals.specs.Wraps.{in_if, wrapped, wrapped_args, wr
 ghost use Rattle.wrapped_externals.specs.Starts.{inner_starts, placed_where, starts, with_ifs};
 ghost use Rattle.wrapped_externals.specs.Nodes.{resumed, pending, wrapped_body};
 
-use crate::kind::{Kind, kind_of};
+use crate::kind::{TermRole, kind_of};
 use crate::run::put_run;
 use asl_tree::term::{Control, Declaration, Node, Op, Special, Term};
 use std::alloc::{AllocError, Global};
@@ -69,15 +69,15 @@ fn wrap_next(
         (places_of run.old.items ++ (term_places node ++ ps))) }
 {
     match kind_of(&node.term) {
-        Kind::External => {
+        TermRole::External => {
             run.push(node)?;
             Ok(())
         }
-        Kind::Branch => {
+        TermRole::Branch => {
             put_behind(alloc, made, run, true, node)?;
             Ok(())
         }
-        Kind::Other => {
+        TermRole::Other => {
             put_behind(alloc, made, run, false, node)?;
             Ok(())
         }

@@ -80,7 +80,8 @@ static VALUES: [(&str, &str); 14] = [
         "6053 32; ",
     ),
     (
-        "SWITCH ( 1 ) { CASE ( BUFFER ( ) { \"b } ) { } CASE ( BUFFER ( 2 ) { \"b } ) { } CASE ( BUFFER ( 3 ) { \"b } ) { } CASE ( BUFFER ( ) { \" } ) { } CASE ( BUFFER ( 1 ) { } ) { } }",
+        "SWITCH ( 1 ) { CASE ( BUFFER ( ) { \"b } ) { } CASE ( BUFFER ( 2 ) { \"b } ) { } CASE ( BUFFER ( 3 ) { \"b } ) { } \
+            CASE ( BUFFER ( ) { \" } ) { } CASE ( BUFFER ( 1 ) { } ) { } }",
         "6053 19; 6053 54; ",
     ),
     // Each Switch has its own values.
@@ -118,52 +119,64 @@ static LOCALS: [(&str, &str); 12] = [
         "",
     ),
     (
-        "METHOD ( M ) { STORE ( LOCAL0 , LOCAL1 ) STORE ( LOCAL2 , LOCAL3 ) STORE ( LOCAL4 , LOCAL5 ) STORE ( LOCAL6 , LOCAL7 ) SWITCH ( 1 ) { CASE ( 1 ) { } } SWITCH ( 1 ) { } }",
+        "METHOD ( M ) { STORE ( LOCAL0 , LOCAL1 ) STORE ( LOCAL2 , LOCAL3 ) STORE ( LOCAL4 , LOCAL5 ) STORE ( LOCAL6 , LOCAL7 ) \
+            SWITCH ( 1 ) { CASE ( 1 ) { } } SWITCH ( 1 ) { } }",
         "6061 30; ",
     ),
     // One is free, for a Switch beside another, but not for two around each other.
     (
-        "METHOD ( M ) { STORE ( LOCAL0 , LOCAL1 ) STORE ( LOCAL2 , LOCAL3 ) STORE ( LOCAL4 , LOCAL5 ) SWITCH ( LOCAL6 ) { CASE ( 1 ) { } } SWITCH ( 1 ) { } }",
+        "METHOD ( M ) { STORE ( LOCAL0 , LOCAL1 ) STORE ( LOCAL2 , LOCAL3 ) STORE ( LOCAL4 , LOCAL5 ) SWITCH ( LOCAL6 ) { CASE ( 1 ) { } } \
+            SWITCH ( 1 ) { } }",
         "",
     ),
     (
-        "METHOD ( M ) { STORE ( LOCAL0 , LOCAL1 ) STORE ( LOCAL2 , LOCAL3 ) STORE ( LOCAL4 , LOCAL5 ) SWITCH ( LOCAL6 ) { CASE ( 1 ) { SWITCH ( 1 ) { } } } }",
+        "METHOD ( M ) { STORE ( LOCAL0 , LOCAL1 ) STORE ( LOCAL2 , LOCAL3 ) STORE ( LOCAL4 , LOCAL5 ) SWITCH ( LOCAL6 ) { CASE ( 1 ) { \
+            SWITCH ( 1 ) { } } } }",
         "6061 24; ",
     ),
     // A Continue that leaves a Switch needs one more.
     (
-        "METHOD ( M ) { STORE ( LOCAL0 , LOCAL1 ) STORE ( LOCAL2 , LOCAL3 ) STORE ( LOCAL4 , LOCAL5 ) WHILE ( LOCAL6 ) { SWITCH ( 1 ) { CASE ( 1 ) { CONTINUE } } } }",
+        "METHOD ( M ) { STORE ( LOCAL0 , LOCAL1 ) STORE ( LOCAL2 , LOCAL3 ) STORE ( LOCAL4 , LOCAL5 ) WHILE ( LOCAL6 ) { SWITCH ( 1 ) { \
+            CASE ( 1 ) { CONTINUE } } } }",
         "6061 29; ",
     ),
     (
-        "METHOD ( M ) { STORE ( LOCAL0 , LOCAL1 ) STORE ( LOCAL2 , LOCAL3 ) STORE ( LOCAL4 , LOCAL5 ) SWITCH ( 1 ) { CASE ( 1 ) { WHILE ( LOCAL6 ) { CONTINUE } } } }",
+        "METHOD ( M ) { STORE ( LOCAL0 , LOCAL1 ) STORE ( LOCAL2 , LOCAL3 ) STORE ( LOCAL4 , LOCAL5 ) SWITCH ( 1 ) { CASE ( 1 ) { \
+            WHILE ( LOCAL6 ) { CONTINUE } } } }",
         "",
     ),
     // A For is a loop as others are; its start and its step name Locals too.
     (
-        "METHOD ( M ) { STORE ( LOCAL0 , LOCAL1 ) STORE ( LOCAL2 , LOCAL3 ) STORE ( LOCAL4 , LOCAL5 ) FOR ( LOCAL6 , 1 , LOCAL7 ) { SWITCH ( 1 ) { } } }",
+        "METHOD ( M ) { STORE ( LOCAL0 , LOCAL1 ) STORE ( LOCAL2 , LOCAL3 ) STORE ( LOCAL4 , LOCAL5 ) FOR ( LOCAL6 , 1 , LOCAL7 ) { \
+            SWITCH ( 1 ) { } } }",
         "6061 33; ",
     ),
     (
-        "METHOD ( M ) { STORE ( LOCAL0 , LOCAL1 ) STORE ( LOCAL2 , LOCAL3 ) STORE ( LOCAL4 , LOCAL5 ) FOR ( LOCAL6 ) { SWITCH ( 1 ) { DEFAULT { CONTINUE } } } }",
+        "METHOD ( M ) { STORE ( LOCAL0 , LOCAL1 ) STORE ( LOCAL2 , LOCAL3 ) STORE ( LOCAL4 , LOCAL5 ) FOR ( LOCAL6 ) { SWITCH ( 1 ) { \
+            DEFAULT { CONTINUE } } } }",
         "6061 29; ",
     ),
     (
-        "METHOD ( M ) { STORE ( LOCAL0 , LOCAL1 ) STORE ( LOCAL2 , LOCAL3 ) STORE ( LOCAL4 , LOCAL5 ) SWITCH ( 1 ) { DEFAULT { FOR ( LOCAL6 ) { CONTINUE } } } }",
+        "METHOD ( M ) { STORE ( LOCAL0 , LOCAL1 ) STORE ( LOCAL2 , LOCAL3 ) STORE ( LOCAL4 , LOCAL5 ) SWITCH ( 1 ) { DEFAULT { \
+            FOR ( LOCAL6 ) { CONTINUE } } } }",
         "",
     ),
     // Outside methods the Locals of all methods count.
     (
-        "METHOD ( M ) { STORE ( LOCAL0 , LOCAL1 ) STORE ( LOCAL2 , LOCAL3 ) STORE ( LOCAL4 , LOCAL5 ) STORE ( LOCAL6 , LOCAL7 ) } SWITCH ( 1 ) { }",
+        "METHOD ( M ) { STORE ( LOCAL0 , LOCAL1 ) STORE ( LOCAL2 , LOCAL3 ) STORE ( LOCAL4 , LOCAL5 ) STORE ( LOCAL6 , LOCAL7 ) } \
+            SWITCH ( 1 ) { }",
         "6061 31; ",
     ),
     (
-        "METHOD ( N ) { SWITCH ( 1 ) { } } METHOD ( M ) { STORE ( LOCAL0 , LOCAL1 ) STORE ( LOCAL2 , LOCAL3 ) STORE ( LOCAL4 , LOCAL5 ) STORE ( LOCAL6 , LOCAL7 ) }",
+        "METHOD ( N ) { SWITCH ( 1 ) { } } METHOD ( M ) { STORE ( LOCAL0 , LOCAL1 ) STORE ( LOCAL2 , LOCAL3 ) STORE ( LOCAL4 , LOCAL5 ) \
+            STORE ( LOCAL6 , LOCAL7 ) }",
         "",
     ),
     // Once a method, in each of several.
     (
-        "METHOD ( M ) { STORE ( LOCAL0 , LOCAL1 ) STORE ( LOCAL2 , LOCAL3 ) STORE ( LOCAL4 , LOCAL5 ) STORE ( LOCAL6 , LOCAL7 ) SWITCH ( 1 ) { } } METHOD ( N ) { STORE ( LOCAL0 , LOCAL1 ) STORE ( LOCAL2 , LOCAL3 ) STORE ( LOCAL4 , LOCAL5 ) STORE ( LOCAL6 , LOCAL7 ) IF ( 1 ) { SWITCH ( 1 ) { } } }",
+        "METHOD ( M ) { STORE ( LOCAL0 , LOCAL1 ) STORE ( LOCAL2 , LOCAL3 ) STORE ( LOCAL4 , LOCAL5 ) STORE ( LOCAL6 , LOCAL7 ) \
+            SWITCH ( 1 ) { } } METHOD ( N ) { STORE ( LOCAL0 , LOCAL1 ) STORE ( LOCAL2 , LOCAL3 ) STORE ( LOCAL4 , LOCAL5 ) \
+            STORE ( LOCAL6 , LOCAL7 ) IF ( 1 ) { SWITCH ( 1 ) { } } }",
         "6061 30; 6061 71; ",
     ),
 ];

@@ -196,7 +196,8 @@ static RUNS: [Row; 13] = [
             b"rsdp2.dat",
             b"facp3.dat",
         ],
-        told: b"rsdp.dat: RSD PTR, 2 bytes\nfacp.dat: FACP, 8 bytes\nfacp2.dat: facp, 8 bytes\nrsdp2.dat: RSDP, 0 bytes\nfacp3.dat: Facp, 8 bytes\n0 errors, 0 warnings, 0 remarks\n",
+        told: b"rsdp.dat: RSD PTR, 2 bytes\nfacp.dat: FACP, 8 bytes\nfacp2.dat: facp, 8 bytes\nrsdp2.dat: RSDP, 0 bytes\n\
+            facp3.dat: Facp, 8 bytes\n0 errors, 0 warnings, 0 remarks\n",
     },
     Row {
         words: &["-s", "RsdP", "d.txt"],

@@ -165,7 +165,8 @@ static FORMS: [(&str, &str); 24] = [
     ("A ( ) B ( , ) C ( { } )", "A( ) B( _ _ ) C( [ ] ) "),
     (
         "A ( B , , { C , { D } } , ) { X = Y = ! Z + 1 * 2 - 3 < 4 ++ ; Q , ( 1 ) }",
-        "A( B _ [ C [ D ] ] _ ){ <Assign@16 X <Assign@18 Y <Less@27 <Subtract@25 <Add@21 <LogicalNot@19 Z > <Multiply@23 1 2 > > 3 > <Increment@29 4 > > > > ; Q , 1 } ",
+        "A( B _ [ C [ D ] ] _ ){ <Assign@16 X <Assign@18 Y <Less@27 <Subtract@25 <Add@21 <LogicalNot@19 Z > <Multiply@23 1 2 > > 3 > \
+            <Increment@29 4 > > > > ; Q , 1 } ",
     ),
     ("A { B - C - D }", "A{ <Subtract@5 <Subtract@3 B C > D > } "),
     (
@@ -174,11 +175,13 @@ static FORMS: [(&str, &str); 24] = [
     ),
     (
         "A { B || C && D | E ^ F & G == H < I << J + K * L }",
-        "A{ <LogicalOr@3 B <LogicalAnd@5 C <Or@7 D <Xor@9 E <And@11 F <Equal@13 G <Less@15 H <ShiftLeft@17 I <Add@19 J <Multiply@21 K L > > > > > > > > > > } ",
+        "A{ <LogicalOr@3 B <LogicalAnd@5 C <Or@7 D <Xor@9 E <And@11 F <Equal@13 G <Less@15 H <ShiftLeft@17 I <Add@19 J <Multiply@21 K L > \
+            > > > > > > > > > } ",
     ),
     (
         "A { B % C - D >> E >= F != G & H ^ I | J && K || L }",
-        "A{ <LogicalOr@21 <LogicalAnd@19 <Or@17 <Xor@15 <And@13 <NotEqual@11 <GreaterEqual@9 <ShiftRight@7 <Subtract@5 <Modulo@3 B C > D > E > F > G > H > I > J > K > L > } ",
+        "A{ <LogicalOr@21 <LogicalAnd@19 <Or@17 <Xor@15 <And@13 <NotEqual@11 <GreaterEqual@9 <ShiftRight@7 <Subtract@5 <Modulo@3 B C > D > \
+            E > F > G > H > I > J > K > L > } ",
     ),
     (
         "A { ! ~ B -- * ( C = D ) }",

@@ -72,8 +72,8 @@ const HIDES: &[u8] = b"DefinitionBlock (\"\", \"SSDT\", 2, \"OEMX00\", \"TABLE00
 }
 ";
 
-const HIDES_TABLE: &[u8] =
-    b"SSDTG\x00\x00\x00\x02\x96OEMX00TABLE001\x01\x00\x00\x00INTL\x05\x01! \x08X___\x0A\x05\x14\x1BM___\x01\xA0\x09h\x08X___\x0A\x07\xA4\x5C.M___X___";
+const HIDES_TABLE: &[u8] = b"SSDTG\x00\x00\x00\x02\x96OEMX00TABLE001\x01\x00\x00\x00INTL\x05\x01! \
+    \x08X___\x0A\x05\x14\x1BM___\x01\xA0\x09h\x08X___\x0A\x07\xA4\x5C.M___X___";
 
 const TEXT: &[u8] = b"DefinitionBlock (\"\", \"SSDT\", 2, \"OEMX00\", \"TABLE001\", 1)
 {
@@ -235,7 +235,8 @@ static SOURCES_2: [Case; 5] = [
         status: 1,
         names: &[],
         bodies: &[],
-        told: b"t.asl:4:23: error 6040: name is declared twice: \\D___.X___\nt.asl:5:26: error 6041: name is not found: Y___\n2 errors, 0 warnings, 0 remarks\n",
+        told: b"t.asl:4:23: error 6040: name is declared twice: \\D___.X___\nt.asl:5:26: error 6041: name is not found: Y___\n\
+            2 errors, 0 warnings, 0 remarks\n",
     },
     Case {
         words: &["t.asl"],
@@ -243,7 +244,8 @@ static SOURCES_2: [Case; 5] = [
         status: 1,
         names: &[],
         bodies: &[],
-        told: b"t.asl:3:28: error 6055: argument is above the count\nt.asl:4:18: error 6051: wrong number of call arguments: N___\nt.asl:4:23: error 6052: no loop to leave\n3 errors, 0 warnings, 0 remarks\n",
+        told: b"t.asl:3:28: error 6055: argument is above the count\nt.asl:4:18: error 6051: wrong number of call arguments: N___\n\
+            t.asl:4:23: error 6052: no loop to leave\n3 errors, 0 warnings, 0 remarks\n",
     },
 ];
 
@@ -321,7 +323,8 @@ static SOURCES_4: [Case; 5] = [
         status: 1,
         names: &[],
         bodies: &[],
-        told: b"t.asl:3:29: error 6021: wrong number of arguments\nt.asl:4:16: error 6024: value is out of range\n2 errors, 0 warnings, 0 remarks\n",
+        told: b"t.asl:3:29: error 6021: wrong number of arguments\nt.asl:4:16: error 6024: value is out of range\n\
+            2 errors, 0 warnings, 0 remarks\n",
     },
     Case {
         words: &[],
@@ -572,7 +575,8 @@ static CASES_4: [Case; 4] = [
         status: 0,
         names: &[b"t.aml"],
         bodies: &[NOTHING_TABLE],
-        told: b"t.asl:1:1: remark 2001: message: hi\nt.asl:2:1: warning 3004: warning directive: careful\nt.aml: SSDT, 36 bytes\n0 errors, 1 warnings, 1 remarks\n",
+        told: b"t.asl:1:1: remark 2001: message: hi\nt.asl:2:1: warning 3004: warning directive: careful\nt.aml: SSDT, 36 bytes\n\
+            0 errors, 1 warnings, 1 remarks\n",
     },
     Case {
         words: &["t.asl"],
@@ -580,7 +584,8 @@ static CASES_4: [Case; 4] = [
         status: 1,
         names: &[],
         bodies: &[],
-        told: b"t.asl:1:1: error 6010: bad character\nt.asl:2:1: warning 3004: warning directive: careful\n1 errors, 1 warnings, 0 remarks\n",
+        told: b"t.asl:1:1: error 6010: bad character\nt.asl:2:1: warning 3004: warning directive: careful\n\
+            1 errors, 1 warnings, 0 remarks\n",
     },
     // A table of revision 1 with a constant that is cut.
     Case {

@@ -1,5 +1,5 @@
 use super::{add, name, named_form, segment};
-use acpi_names::index::{Found, denoted_by, names_of};
+use acpi_names::index::{BlockNames, denoted_by, names_of};
 use acpi_names::mention::{Asked, Mention};
 use acpi_values::operator::{DataOp, EventOp, Plain};
 use asl_tree::path::{NameSeg, Path};
@@ -32,7 +32,7 @@ fn device(alloc: Global, number: u32, count: u32) -> Result<Term, AllocError> {
 }
 
 // How many uses denote a name of their own scope.
-fn own_uses(found: &Found) -> usize {
+fn own_uses(found: &BlockNames) -> usize {
     let mut count: usize = 0;
     for mention in &found.mentions {
         match mention {
@@ -47,7 +47,7 @@ fn own_uses(found: &Found) -> usize {
     count
 }
 
-fn is_own(found: &Found, name: &Path, scope: usize) -> bool {
+fn is_own(found: &BlockNames, name: &Path, scope: usize) -> bool {
     let paths = &found.index.paths;
     if scope >= paths.len() || found.index.named.len() != paths.len() {
         return false;
@@ -85,7 +85,7 @@ fn many_names_are_found(rt: HostRuntime) -> Result<(), Fail> {
 }
 
 // One letter a mention; a small one where nothing is asked of its kind.
-fn letters(alloc: Global, found: &Found) -> Result<Vec<u8>, AllocError> {
+fn letters(alloc: Global, found: &BlockNames) -> Result<Vec<u8>, AllocError> {
     let mut out = Vec::new(alloc);
     for mention in &found.mentions {
         let letter = match mention {

@@ -2,7 +2,7 @@ use super::{PLACE, name, segment};
 use asl_tree::path::{NameSeg, Path, Segs};
 use asl_tree::term::{Control, Declaration, Node, Op, Term};
 use iasl_messages::place::Place;
-use name_entries::entries::{Names, entries};
+use name_entries::entries::{Entries, entries_of};
 use std::alloc::{AllocError, Global};
 use std::test::Fail;
 
@@ -56,17 +56,17 @@ fn device(alloc: Global, scope: u32) -> Result<Term, AllocError> {
 }
 
 // Whether the use in a scope denotes the Name there.
-fn is_own(alloc: Global, names: &Names, scope: u32, number: u32) -> Result<bool, AllocError> {
+fn is_own(names: &Entries, scope: u32, number: u32) -> bool {
     let Some(target) = names.denotes(use_number(scope, number)) else {
-        return Ok(false);
+        return false;
     };
-    match names.entry(alloc, target)? {
-        Some(entry) => Ok(
+    match names.entry(target) {
+        Some(entry) => {
             entry.path.root
                 && entry.path.segs.as_slice()
-                    == [segment(b'D', scope), segment(b'N', number)].as_slice(),
-        ),
-        None => Ok(false),
+                    == [segment(b'D', scope), segment(b'N', number)].as_slice()
+        }
+        None => false,
     }
 }
 
@@ -78,11 +78,11 @@ fn many_uses_are_found(rt: HostRuntime) -> Result<(), Fail> {
     for scope in 0..SCOPES {
         add(&mut terms, 0, device(alloc, scope)?)?;
     }
-    let names = entries(alloc, &terms)?;
+    let names = entries_of(alloc, &terms)?;
     let mut found: u32 = 0;
     for scope in 0..SCOPES {
         for number in 0..NAMES {
-            if is_own(alloc, &names, scope, number)? {
+            if is_own(&names, scope, number) {
                 found = found.wrapping_add(1);
             }
         }
@@ -184,11 +184,11 @@ fn called(
 }
 
 // The entry of the path that a used name denotes.
-fn told(alloc: Global, names: &Names, node: u32) -> Result<String, AllocError> {
+fn told(alloc: Global, names: &Entries, node: u32) -> Result<String, AllocError> {
     let Some(number) = names.denotes(node) else {
         return Ok(format!(in alloc; "nothing")?);
     };
-    let Some(entry) = names.entry(alloc, number)? else {
+    let Some(entry) = names.entry(number) else {
         return Ok(format!(in alloc; "no entry")?);
     };
     let kind = entry.kind;
@@ -225,7 +225,7 @@ fn rows(alloc: Global, segments: &[&NameSeg]) -> Result<String, AllocError> {
             used(alloc, &mut nodes, count, **segment)?;
         }
     }
-    let names = entries(alloc, &nodes)?;
+    let names = entries_of(alloc, &nodes)?;
     let mut out = String::new(alloc);
     for node in 0..count {
         let row = told(alloc, &names, node.wrapping_add(1))?;

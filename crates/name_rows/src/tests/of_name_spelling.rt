@@ -1,5 +1,5 @@
 use super::{add, name, named_form};
-use acpi_names::index::{Found, Index, denoted_by, names_of};
+use acpi_names::index::{BlockNames, Index, denoted_by, names_of};
 use asl_tree::path::{NameSeg, Path, Segs};
 use asl_tree::term::{Declaration, Node, Op, Special, Term};
 use name_spelling::spell::spell;
@@ -66,7 +66,7 @@ fn spelled(
     called: NameSeg,
     count: Option<usize>,
 ) -> Result<Vec<u8>, AllocError> {
-    let Found { index, mentions } = names_of(alloc, &terms)?;
+    let BlockNames { index, mentions } = names_of(alloc, &terms)?;
     drop(mentions);
     let number = number_of(alloc, &index, called)?;
     let mut calls = Vec::new(alloc);

@@ -80,7 +80,10 @@ fn messages_stand_on_the_console(rt: HostRuntime) -> Result<(), AllocError> {
     let all = shown(alloc, list, false)?;
     assert!(rt;
         all.as_bytes()
-            == "t.asl:1:1: warning 3003: name is never used: a\nt.asl:1:1: warning 3003: name is never used: b\nt.asl:1:1: error 6002: includes are nested too deep: t.asl\nt.asl:3:16: error 6015: syntax\nt.asl:10:2: error 6015: syntax\ndir/b.asl:1:1: remark 2001: message\n".as_bytes()
+            == "t.asl:1:1: warning 3003: name is never used: a\nt.asl:1:1: warning 3003: name is never used: b\n\
+                t.asl:1:1: error 6002: includes are nested too deep: t.asl\nt.asl:3:16: error 6015: syntax\n\
+                t.asl:10:2: error 6015: syntax\ndir/b.asl:1:1: remark 2001: message\n"
+                .as_bytes()
     );
     Ok(())
 }

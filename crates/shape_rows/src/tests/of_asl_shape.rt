@@ -1,3 +1,4 @@
+mod resource_errors;
 mod resources;
 mod serial;
 mod switches;
@@ -265,25 +266,30 @@ fn tells_errors_of_regions_and_fields(rt: HostRuntime) -> Result<(), Fail> {
 // The terms of a block, and the errors of accesses and connections in the lists of fields.
 static ERRORS_OF_CONNECTIONS: [(&str, &str); 8] = [
     (
-        "FIELD ( R , BUFFERACC , NOLOCK , PRESERVE ) { CONNECTION ( \\A.B ) , ACCESSAS ( BYTEACC , ATTRIBBYTE ) , ACCESSAS ( 5 , ATTRIBBYTES ( 255 ) ) , ACCESSAS ( ANYACC ) , F , 8 , OFFSET ( 4 ) }",
+        "FIELD ( R , BUFFERACC , NOLOCK , PRESERVE ) { CONNECTION ( \\A.B ) , ACCESSAS ( BYTEACC , ATTRIBBYTE ) , ACCESSAS ( 5 , \
+            ATTRIBBYTES ( 255 ) ) , ACCESSAS ( ANYACC ) , F , 8 , OFFSET ( 4 ) }",
         "none",
     ),
     (
-        "FIELD ( R , ANYACC , LOCK , PRESERVE ) { CONNECTION ( GPIOIO ( , PULLUP , , , , \"S ) { 1 } ) , F , 1 , CONNECTION ( I2CSERIALBUSV2 ( 1 , DEVICEINITIATED , 2 , ADDRESSINGMODE10BIT , \"S ) ) }",
+        "FIELD ( R , ANYACC , LOCK , PRESERVE ) { CONNECTION ( GPIOIO ( , PULLUP , , , , \"S ) { 1 } ) , F , 1 , \
+            CONNECTION ( I2CSERIALBUSV2 ( 1 , DEVICEINITIATED , 2 , ADDRESSINGMODE10BIT , \"S ) ) }",
         "none",
     ),
     // Units are connected to a name or to a descriptor of pins or of a serial bus.
     (
-        "FIELD ( R , ANYACC , LOCK , PRESERVE ) { CONNECTION ( 1 ) , CONNECTION ( ADD ( 1 , 2 ) ) , CONNECTION ( LOCAL0 ) , CONNECTION ( IRQNOFLAGS ( ) { 1 } ) , CONNECTION ( \"S ) }",
+        "FIELD ( R , ANYACC , LOCK , PRESERVE ) { CONNECTION ( 1 ) , CONNECTION ( ADD ( 1 , 2 ) ) , CONNECTION ( LOCAL0 ) , \
+            CONNECTION ( IRQNOFLAGS ( ) { 1 } ) , CONNECTION ( \"S ) }",
         "6022@28 6022@33 6022@43 6022@48 6022@58 ",
     ),
     (
-        "FIELD ( R , ANYACC , LOCK , PRESERVE ) { CONNECTION ( ) , ACCESSAS ( ) , ACCESSAS ( 1 , 2 , 3 ) , CONNECTION ( A ) { } , ACCESSAS ( 1 , ATTRIBBYTES ( ) ) }",
+        "FIELD ( R , ANYACC , LOCK , PRESERVE ) { CONNECTION ( ) , ACCESSAS ( ) , ACCESSAS ( 1 , 2 , 3 ) , CONNECTION ( A ) { } , \
+            ACCESSAS ( 1 , ATTRIBBYTES ( ) ) }",
         "6021@26 6021@30 6021@34 6023@43 6021@54 ",
     ),
     // An access is a word or a number up to 5, and its attribute a word, a byte, or one with a length.
     (
-        "FIELD ( R , ANYACC , LOCK , PRESERVE ) { ACCESSAS ( 6 , 256 ) , ACCESSAS ( LOCK , ATTRIBBYTES ( 256 ) ) , ACCESSAS ( ATTRIBBYTES ( 1 ) ) , ATTRIBBYTES ( 1 ) , 8 }",
+        "FIELD ( R , ANYACC , LOCK , PRESERVE ) { ACCESSAS ( 6 , 256 ) , ACCESSAS ( LOCK , ATTRIBBYTES ( 256 ) ) , \
+            ACCESSAS ( ATTRIBBYTES ( 1 ) ) , ATTRIBBYTES ( 1 ) , 8 }",
         "6024@28 6024@30 6022@35 6024@39 6025@45 6025@51 ",
     ),
     (

@@ -1,6 +1,4 @@
 use acpi_values::operator::{DataOp, IntOp, Plain};
-use aml_writer::measure::measure;
-use aml_writer::reserve::reserve;
 use aml_writer::write::write;
 use asl_tree::path::{NameSeg, Path, Segs};
 use asl_tree::program::{Block, Blocks, Core, Program};
@@ -25,11 +23,11 @@ fn name(alloc: Global, seg: NameSeg) -> Result<Term, AllocError> {
     }))
 }
 
-fn form(op: Op, args: Vec<Node>, body: Vec<Node>) -> Term {
+pub(super) fn form(op: Op, args: Vec<Node>, body: Vec<Node>) -> Term {
     Term::Form { op, args, body }
 }
 
-fn add(nodes: &mut Vec<Node>, id: u32, term: Term) -> Result<(), AllocError> {
+pub(super) fn add(nodes: &mut Vec<Node>, id: u32, term: Term) -> Result<(), AllocError> {
     nodes.push(Node {
         id,
         place: PLACE,
@@ -125,7 +123,8 @@ static TABLES: [Row; 3] = [
         oem_revision: 0x1234_5678,
         method: false,
         pieces: 2,
-        bytes: b"DSDT\x2B\x00\x00\x00\x01\x1FAB\x00\x00\x00\x00C\x00\x00\x00\x00\x00\x00\x00\x78\x56\x34\x12INTL\x05\x01\x21\x20\x08ABCD\x0A\x12",
+        bytes: b"DSDT\x2B\x00\x00\x00\x01\x1FAB\x00\x00\x00\x00C\x00\x00\x00\x00\x00\x00\x00\x78\x56\x34\x12INTL\x05\x01\x21\x20\
+            \x08ABCD\x0A\x12",
     },
     Row {
         signature: b"SSDT",
@@ -139,7 +138,7 @@ static TABLES: [Row; 3] = [
     },
 ];
 
-fn no_lines(alloc: Global) -> Lines {
+pub(super) fn no_lines(alloc: Global) -> Lines {
     Lines {
         files: Texts::new(alloc),
         list: LineList::new(alloc),
@@ -296,7 +295,7 @@ fn one_block(alloc: Global, terms: Vec<Node>) -> Result<Core, AllocError> {
     })
 }
 
-fn forms(alloc: Global) -> Result<Core, AllocError> {
+pub(super) fn forms(alloc: Global) -> Result<Core, AllocError> {
     let mut terms = Vec::new(alloc);
     add(&mut terms, 31, region(alloc)?)?;
     add(&mut terms, 32, field(alloc)?)?;
@@ -323,7 +322,10 @@ fn forms_as_bytes(rt: HostRuntime) -> Result<(), AllocError> {
             assert!(rt;
                 content
                     == Some(
-                        b"\x5B\x80REGA\x00\x0A\x10\x0A\x04\x5B\x81\x14REGA\x21UNTA\x04\x00\x04\x00\x08UNTB\x08\x08BUFF\x11\x06\x0A\x03\x01\x02\x03\x08PKGE\x12\x06\x02\x01\x0DA\x00\x14\x11MTHD\x02\x70\x92\x93\x60\x69\x5B\x31\x9C\x61\xFF\x00\x15EXTN\x08\x00".as_slice()
+                        b"\x5B\x80REGA\x00\x0A\x10\x0A\x04\x5B\x81\x14REGA\x21UNTA\x04\x00\x04\x00\x08UNTB\x08\x08BUFF\x11\x06\x0A\x03\x01\
+                            \x02\x03\x08PKGE\x12\x06\x02\x01\x0DA\x00\x14\x11MTHD\x02\x70\x92\x93\x60\x69\x5B\x31\x9C\x61\xFF\x00\x15EXTN\
+                            \x08\x00"
+                            .as_slice()
                     )
             );
         }
@@ -373,7 +375,7 @@ fn connected_field(alloc: Global) -> Result<Term, AllocError> {
     Ok(form(Op::Declaration(Declaration::Field), args, items))
 }
 
-fn field_alone(alloc: Global) -> Result<Core, AllocError> {
+pub(super) fn field_alone(alloc: Global) -> Result<Core, AllocError> {
     let mut terms = Vec::new(alloc);
     add(&mut terms, 0, connected_field(alloc)?)?;
     one_block(alloc, terms)
@@ -394,7 +396,9 @@ fn elements_of_a_field_as_bytes(rt: HostRuntime) -> Result<(), AllocError> {
             assert!(rt;
                 bytes.get(36..)
                     == Some(
-                        b"\x5B\x81\x27REGA\x05\x02CON0\x01\x05\x06UNTA\x08\x00\x04\x00\x14\x02\x11\x05\x0A\x02\x79\x00\x03\x05\x0B\x09UNTB\x10".as_slice()
+                        b"\x5B\x81\x27REGA\x05\x02CON0\x01\x05\x06UNTA\x08\x00\x04\x00\x14\x02\x11\x05\x0A\x02\x79\x00\x03\x05\x0B\x09UNTB\
+                            \x10"
+                            .as_slice()
                     )
             );
         }
@@ -404,7 +408,7 @@ fn elements_of_a_field_as_bytes(rt: HostRuntime) -> Result<(), AllocError> {
 }
 
 // Method (MAIN, 0) and its terms
-fn method_of(alloc: Global, body: Vec<Node>) -> Result<Core, AllocError> {
+pub(super) fn method_of(alloc: Global, body: Vec<Node>) -> Result<Core, AllocError> {
     let mut args = Vec::new(alloc);
     add(&mut args, 1, name(alloc, *b"MAIN")?)?;
     add(&mut args, 2, Term::Integer(0))?;
@@ -458,7 +462,7 @@ fn if_local(alloc: Global, op: Control, local: u8, more: Vec<Node>) -> Result<Te
 }
 
 // Method (MAIN, 0) { If (Local0) { 1 } ElseIf (Local1) { 1 1 } Else { 1 } }: the ElseIf is an Else and the If that begins it, at one place.
-fn else_ifs(alloc: Global) -> Result<Core, AllocError> {
+pub(super) fn else_ifs(alloc: Global) -> Result<Core, AllocError> {
     let mut first = Vec::new(alloc);
     add(&mut first, 1, Term::Integer(1))?;
     let mut second = Vec::new(alloc);
@@ -481,51 +485,6 @@ fn else_ifs(alloc: Global) -> Result<Core, AllocError> {
         form(Op::Control(Control::Else), Vec::new(alloc), inside),
     )?;
     method_of(alloc, body)
-}
-
-// Whether a core's table has so many bytes, and its room is of so many pieces and of packages of these lengths.
-fn has_room(
-    alloc: Global,
-    core: &Core,
-    size: u32,
-    pieces: usize,
-    lengths: &[u32],
-) -> Result<bool, AllocError> {
-    if core.program.blocks.is_empty() {
-        return Ok(false);
-    }
-    let is_size = match measure(core, 0, true) {
-        Ok(measured) => measured == size,
-        Err(_) => false,
-    };
-    match reserve(alloc, core, &no_lines(alloc), 0, true) {
-        Ok(room) => Ok(
-            is_size && room.pieces.len() == pieces && room.lengths.as_slice() == lengths,
-        ),
-        Err(_) => Ok(false),
-    }
-}
-
-// The length of a package counts its own bytes.
-#[test]
-fn rooms(rt: HostRuntime) -> Result<(), AllocError> {
-    let mut value = Vec::new(rt.alloc());
-    add(&mut value, 3, Term::Integer(1))?;
-    let mut body = Vec::new(rt.alloc());
-    add(
-        &mut body,
-        4,
-        form(Op::Control(Control::Return), value, Vec::new(rt.alloc())),
-    )?;
-    let first = method_of(rt.alloc(), body)?;
-    assert!(rt; has_room(rt.alloc(), &first, 45, 3, &[8])?);
-    let second = forms(rt.alloc())?;
-    assert!(rt; has_room(rt.alloc(), &second, 118, 9, &[20, 6, 6, 17])?);
-    let third = field_alone(rt.alloc())?;
-    assert!(rt; has_room(rt.alloc(), &third, 77, 2, &[39, 5])?);
-    let fourth = else_ifs(rt.alloc())?;
-    assert!(rt; has_room(rt.alloc(), &fourth, 57, 9, &[20, 3, 9, 4, 2])?);
-    Ok(())
 }
 
 #[test]

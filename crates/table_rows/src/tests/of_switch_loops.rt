@@ -146,15 +146,18 @@ fn write(alloc: Global, out: &mut String, nodes: &[Node]) -> Result<(), AllocErr
 static LOOPS: [(&str, &str); 5] = [
     (
         "A0 { { 20 Return } Default 1 { 10 Return } Case - { 2 3 } Package { Break } Case } Switch",
-        "One { A0 L0 Store@25 L0 1 LEqual { 10 Return@11 } If@13 { L0 2 LEqual L0 3 LEqual LOr { Break@21 } If@23 { 20 Return@5 } Else@7 } Else@23 Break@25 } While@25 ",
+        "One { A0 L0 Store@25 L0 1 LEqual { 10 Return@11 } If@13 { L0 2 LEqual L0 3 LEqual LOr { Break@21 } If@23 { 20 Return@5 } Else@7 } \
+            Else@23 Break@25 } While@25 ",
     ),
     (
         "L0 2 LLess { L0 { 1 { Continue } Case } Switch L0 L1 Store } While L1 Return",
-        "L0 2 LLess { Zero L3 Store@13 One { L0 L2 Store@13 L2 1 LEqual { One L3 Store@9 Break@9 } If@11 Break@13 } While@13 L3 { Zero L3 Store@13 Continue@13 } If@13 L0 L1 Store@16 } While@18 L1 Return@20 ",
+        "L0 2 LLess { Zero L3 Store@13 One { L0 L2 Store@13 L2 1 LEqual { One L3 Store@9 Break@9 } If@11 Break@13 } While@13 L3 { \
+            Zero L3 Store@13 Continue@13 } If@13 L0 L1 Store@16 } While@18 L1 Return@20 ",
     ),
     (
         "One { A0 { { L0 { { Continue } Default } Switch Break } Default } Switch } While",
-        "One { Zero L3 Store@18 One { A0 L1 Store@18 One { L0 L2 Store@13 One L3 Store@9 Break@9 Break@13 } While@13 L3 { Break@13 } If@13 Break@14 Break@18 } While@18 L3 { Zero L3 Store@18 Continue@18 } If@18 } While@20 ",
+        "One { Zero L3 Store@18 One { A0 L1 Store@18 One { L0 L2 Store@13 One L3 Store@9 Break@9 Break@13 } While@13 L3 { Break@13 } \
+            If@13 Break@14 Break@18 } While@18 L3 { Zero L3 Store@18 Continue@18 } If@18 } While@20 ",
     ),
     // Three members; nothing is tested where there is no Case.
     (

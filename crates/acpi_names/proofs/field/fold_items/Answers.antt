@@ -31,7 +31,8 @@ loop-node-preserved c =
       names = units_next c.args.index.now.paths c.loop-node.index.paths c.fold_item.new.index.paths c.args.index.now.named.items c.loop-node.index.named.items c.fold_item.new.index.named.items c.args.nodes.now c.loop-node.node-index c.node-item.result
           (get_or c.args.index.now.paths c.args.scope []) (get_or c.loop-node.index.paths c.args.scope []) c.loop-node-test.true c.node-item.is
           (c.loop-node.invariant.others.same c.args.scope c.requires.scope_in) c.loop-node.invariant.names now.names;
-      told = remains_next c.args.nodes.now c.loop-node.node-index c.node-item.result c.args.out.now.items c.loop-node.out.items c.fold_item.new.out.items (λ ps. entry_mentions (node_tree c.node-item.result) (get_or ps c.args.scope [])) (λ ps ts. item_mentions (listed_items ts) (get_or ps c.args.scope [])) (λ ps ts. item_mentions (listed_items ts) (get_or ps c.args.scope [])) (λ ps. item_mentions (listed_items (trees_of c.args.nodes.now)) (get_or ps c.args.scope [])) c.loop-node-test.true c.node-item.is (λ ps ts. mention_step (node_tree c.node-item.result) ts (get_or ps c.args.scope [])) c.loop-node.invariant.told now.told;
+      told = remains_next c.args.nodes.now c.loop-node.node-index c.node-item.result c.args.out.now.items c.loop-node.out.items c.fold_item.new.out.items (λ ps. entry_mentions (node_tree c.node-item.result) (get_or ps c.args.scope [])) (λ ps ts. item_mentions (listed_items ts) (get_or ps c.args.scope [])) (λ ps ts. item_mentions (listed_items ts) (get_or ps c.args.scope []))
+          (λ ps. item_mentions (listed_items (trees_of c.args.nodes.now)) (get_or ps c.args.scope [])) c.loop-node-test.true c.node-item.is (λ ps ts. mention_step (node_tree c.node-item.result) ts (get_or ps c.args.scope [])) c.loop-node.invariant.told now.told;
     }
 
 pub returns-clause-names : goal.returns-clause-names

@@ -6,12 +6,13 @@ use Rattle.acpi_names.specs.Mentions.{mentions, mentions_all, block_mentions, te
 use Rattle.acpi_names.specs.Parts.{object_of, part_of}
 use Rattle.acpi_names.specs.Shown.{named_as, spot_as}
 use Rattle.acpi_names.specs.Walked.{term_shape, first_trees, later_trees, node_tree, part_mentions}
-use Rattle.acpi_names.specs.declared.part.Part.TheVariants as P
+use Rattle.acpi_names.specs.declared.part.NameRole.TheVariants as P
 use Rattle.acpi_names.proofs.Closed.{extends_then}
 use Rattle.acpi_names.proofs.Trees.{node_smaller}
 use Rattle.acpi_names.proofs.Folds.{leads_none, leads_next, leads_whole, at_of}
 use Rattle.acpi_names.proofs.Telling.{tells_one}
-use Rattle.acpi_names.proofs.FoldTelling.{told_none, told_next, told_whole, told_value, told_as, told_no_more, leads_as, leads_here, led_by, told_by, shape_declares, shape_mentions_form, not_formed, plain_declares, plain_mentions, is_form_shape, around, declared_leads, opened_leads, declared_tells, opened_tells, undeclared_part, untold_part, scope_leads, scope_tells, scope_undeclared, scope_untold}
+use Rattle.acpi_names.proofs.FoldTelling.{told_none, told_next, told_whole, told_value, told_as, told_no_more, leads_as, leads_here, led_by, told_by, shape_declares, shape_mentions_form, not_formed, plain_declares}
+use Rattle.acpi_names.proofs.FoldTelling.{plain_mentions, is_form_shape, around, declared_leads, opened_leads, declared_tells, opened_tells, undeclared_part, untold_part, scope_leads, scope_tells, scope_undeclared, scope_untold}
 use Rattle.acpi_names.proofs.index.+fold.Goals as goal
 
 pub fold-fold_term-requires : goal.fold-fold_term-requires
@@ -51,15 +52,18 @@ pub fold_declared-returns-in_ok-fold-in-Some-clause-names : goal.fold_declared-r
 fold_declared-returns-in_ok-fold-in-Some-clause-names t c =
     let now = c.in_ok-inner-in-Some.ensures in
     led_by c.args.index.now.paths c.fold.new.index.paths c.args.index.now.named.items c.fold.new.index.named.items (P.Declares c.args.place c.args.what true) _ (trees_of c.args.args.now) (trees_of c.args.body.now) (get_or c.args.index.now.paths c.args.scope []) (ap (λ b. P.Declares c.args.place c.args.what b) (sym c.if-opens.true))
-    (opened_leads c.args.index.now.paths c.declared.new.index.paths c.fold.new.index.paths c.args.index.now.named.items c.declared.new.index.named.items c.fold.new.index.named.items c.args.place c.args.what (trees_of c.args.args.now) (trees_of c.args.body.now) (get_or c.args.index.now.paths c.args.scope []) (get_or c.declared.new.index.paths c.in_ok-inner-in-Some.inner []) (named_as c.in-Some.found) (sym c.in-Some.ensures) now.names now.path c.in_ok-fold-in-Some.ensures.names)
+    (opened_leads c.args.index.now.paths c.declared.new.index.paths c.fold.new.index.paths c.args.index.now.named.items c.declared.new.index.named.items c.fold.new.index.named.items c.args.place c.args.what (trees_of c.args.args.now) (trees_of c.args.body.now) (get_or c.args.index.now.paths c.args.scope []) (get_or c.declared.new.index.paths c.in_ok-inner-in-Some.inner [])
+    (named_as c.in-Some.found) (sym c.in-Some.ensures) now.names now.path c.in_ok-fold-in-Some.ensures.names)
 
 pub fold_declared-returns-in_ok-fold-in-Some-clause-told : goal.fold_declared-returns-in_ok-fold-in-Some-clause-told
 fold_declared-returns-in_ok-fold-in-Some-clause-told t c here op =
     let now = c.in_ok-inner-in-Some.ensures in
     let m = named_as c.in-Some.found in
     told_by c.args.index.now.paths c.fold.new.index.paths c.args.index.now.named.items c.args.out.now.items c.fold.new.out.items (P.Declares c.args.place c.args.what true) _ here op (trees_of c.args.args.now) (trees_of c.args.body.now) (get_or c.args.index.now.paths c.args.scope []) (ap (λ b. P.Declares c.args.place c.args.what b) (sym c.if-opens.true))
-    (opened_tells c.args.index.now.paths c.declared.new.index.paths c.fold.new.index.paths c.args.index.now.named.items c.declared.new.index.named.items c.args.out.now.items c.values-in-Some.new.out.items c.fold.new.out.items c.args.place c.args.what (trees_of c.args.args.now) (trees_of c.args.body.now) c.args.scope (get_or c.declared.new.index.paths c.in_ok-inner-in-Some.inner []) (spot_as here) op m c.requires.scope_in now.others c.in_ok-fold-in-Some.ensures.others (sym c.in-Some.ensures) now.names now.path
-    (around c.args.out.now.items c.values.new.out.items c.push.new.self.items c.values-in-Some.new.out.items c.args.scope (first_trees c.args.place (trees_of c.args.args.now)) (later_trees (suc c.args.place) (trees_of c.args.args.now)) c.first_nodes.result.now c.later_nodes.result.now (λ s. M.Declares m.0 m.1 (As (object_of c.args.what)) s) c.first_nodes.ensures c.later_nodes.ensures c.in_ok-values-in-Some.ensures (tells_one c.values.new.out.items c.push.new.self.items _ c.in_ok-push-in-Some.ensures.items) c.in_ok-values-in-Some-2.ensures)
+    (opened_tells c.args.index.now.paths c.declared.new.index.paths c.fold.new.index.paths c.args.index.now.named.items c.declared.new.index.named.items c.args.out.now.items c.values-in-Some.new.out.items c.fold.new.out.items c.args.place c.args.what (trees_of c.args.args.now) (trees_of c.args.body.now) c.args.scope (get_or c.declared.new.index.paths c.in_ok-inner-in-Some.inner [])
+    (spot_as here) op m c.requires.scope_in now.others c.in_ok-fold-in-Some.ensures.others (sym c.in-Some.ensures) now.names now.path
+    (around c.args.out.now.items c.values.new.out.items c.push.new.self.items c.values-in-Some.new.out.items c.args.scope (first_trees c.args.place (trees_of c.args.args.now)) (later_trees (suc c.args.place) (trees_of c.args.args.now)) c.first_nodes.result.now c.later_nodes.result.now
+    (λ s. M.Declares m.0 m.1 (As (object_of c.args.what)) s) c.first_nodes.ensures c.later_nodes.ensures c.in_ok-values-in-Some.ensures (tells_one c.values.new.out.items c.push.new.self.items _ c.in_ok-push-in-Some.ensures.items) c.in_ok-values-in-Some-2.ensures)
     c.in_ok-fold-in-Some.ensures.told)
 
 pub fold_declared-returns-else-opens-clause-names : goal.fold_declared-returns-else-opens-clause-names
@@ -74,7 +78,8 @@ fold_declared-returns-else-opens-clause-told t c here op =
     let m = named_as c.in-Some.found in
     told_by c.args.index.now.paths c.declared.new.index.paths c.args.index.now.named.items c.args.out.now.items c.values-in-Some.new.out.items (P.Declares c.args.place c.args.what false) _ here op (trees_of c.args.args.now) (trees_of c.args.body.now) (get_or c.args.index.now.paths c.args.scope []) (ap (λ b. P.Declares c.args.place c.args.what b) (sym c.if-opens.false))
     (declared_tells c.args.index.now.paths c.declared.new.index.paths c.args.index.now.named.items c.args.out.now.items c.values-in-Some.new.out.items c.args.place c.args.what (trees_of c.args.args.now) (trees_of c.args.body.now) c.args.scope (spot_as here) op m c.requires.scope_in now.others (sym c.in-Some.ensures)
-    (around c.args.out.now.items c.values.new.out.items c.push.new.self.items c.values-in-Some.new.out.items c.args.scope (first_trees c.args.place (trees_of c.args.args.now)) (later_trees (suc c.args.place) (trees_of c.args.args.now)) c.first_nodes.result.now c.later_nodes.result.now (λ s. M.Declares m.0 m.1 (As (object_of c.args.what)) s) c.first_nodes.ensures c.later_nodes.ensures c.in_ok-values-in-Some.ensures (tells_one c.values.new.out.items c.push.new.self.items _ c.in_ok-push-in-Some.ensures.items) c.in_ok-values-in-Some-2.ensures))
+    (around c.args.out.now.items c.values.new.out.items c.push.new.self.items c.values-in-Some.new.out.items c.args.scope (first_trees c.args.place (trees_of c.args.args.now)) (later_trees (suc c.args.place) (trees_of c.args.args.now)) c.first_nodes.result.now c.later_nodes.result.now
+    (λ s. M.Declares m.0 m.1 (As (object_of c.args.what)) s) c.first_nodes.ensures c.later_nodes.ensures c.in_ok-values-in-Some.ensures (tells_one c.values.new.out.items c.push.new.self.items _ c.in_ok-push-in-Some.ensures.items) c.in_ok-values-in-Some-2.ensures))
 
 pub fold_declared-returns-in-None-clause-names : goal.fold_declared-returns-in-None-clause-names
 fold_declared-returns-in-None-clause-names t c =
@@ -82,17 +87,20 @@ fold_declared-returns-in-None-clause-names t c =
 
 pub fold_declared-returns-in-None-clause-told : goal.fold_declared-returns-in-None-clause-told
 fold_declared-returns-in-None-clause-told t c here op =
-    told_as c.args.index.now.paths c.args.index.now.paths c.args.index.now.named.items c.args.out.now.items c.args.out.now.items _ _ (λ d agrees. untold_part c.args.place c.args.what c.args.opens (trees_of c.args.args.now) (trees_of c.args.body.now) (get_or c.args.index.now.paths c.args.scope []) (spot_as here) op d (sym c.in-None.ensures)) (told_no_more c.args.index.now.paths c.args.index.now.named.items c.args.out.now.items)
+    told_as c.args.index.now.paths c.args.index.now.paths c.args.index.now.named.items c.args.out.now.items c.args.out.now.items _ _
+    (λ d agrees. untold_part c.args.place c.args.what c.args.opens (trees_of c.args.args.now) (trees_of c.args.body.now) (get_or c.args.index.now.paths c.args.scope []) (spot_as here) op d (sym c.in-None.ensures)) (told_no_more c.args.index.now.paths c.args.index.now.named.items c.args.out.now.items)
 
 pub fold_scope-returns-in_ok-fold-in-Some-clause-names : goal.fold_scope-returns-in_ok-fold-in-Some-clause-names
 fold_scope-returns-in_ok-fold-in-Some-clause-names t c =
     let now = c.in_ok-inner-in-Some.ensures in
-    scope_leads c.args.index.now.paths c.opened_scope.new.index.paths c.fold.new.index.paths c.args.index.now.named.items c.opened_scope.new.index.named.items c.fold.new.index.named.items (trees_of c.args.args.now) (trees_of c.args.body.now) (get_or c.args.index.now.paths c.args.scope []) (get_or c.opened_scope.new.index.paths c.in_ok-inner-in-Some.inner []) (named_as c.in-Some.found) (sym c.in-Some.ensures) now.names now.path c.in_ok-fold-in-Some.ensures.names
+    scope_leads c.args.index.now.paths c.opened_scope.new.index.paths c.fold.new.index.paths c.args.index.now.named.items c.opened_scope.new.index.named.items c.fold.new.index.named.items (trees_of c.args.args.now) (trees_of c.args.body.now) (get_or c.args.index.now.paths c.args.scope []) (get_or c.opened_scope.new.index.paths c.in_ok-inner-in-Some.inner [])
+    (named_as c.in-Some.found) (sym c.in-Some.ensures) now.names now.path c.in_ok-fold-in-Some.ensures.names
 
 pub fold_scope-returns-in_ok-fold-in-Some-clause-told : goal.fold_scope-returns-in_ok-fold-in-Some-clause-told
 fold_scope-returns-in_ok-fold-in-Some-clause-told t c op =
     let now = c.in_ok-inner-in-Some.ensures in
-    scope_tells c.args.index.now.paths c.opened_scope.new.index.paths c.fold.new.index.paths c.args.index.now.named.items c.opened_scope.new.index.named.items c.args.out.now.items c.push.new.self.items c.fold.new.out.items (trees_of c.args.args.now) (trees_of c.args.body.now) c.args.scope c.in_ok-inner-in-Some.inner (spot_as c.args.here) op (named_as c.in-Some.found) c.requires.scope_in now.within now.others c.in_ok-fold-in-Some.ensures.others (sym c.in-Some.ensures) now.names now.path (tells_one c.args.out.now.items c.push.new.self.items _ c.in_ok-push-in-Some.ensures.items) c.in_ok-fold-in-Some.ensures.told
+    scope_tells c.args.index.now.paths c.opened_scope.new.index.paths c.fold.new.index.paths c.args.index.now.named.items c.opened_scope.new.index.named.items c.args.out.now.items c.push.new.self.items c.fold.new.out.items (trees_of c.args.args.now) (trees_of c.args.body.now) c.args.scope c.in_ok-inner-in-Some.inner (spot_as c.args.here) op
+    (named_as c.in-Some.found) c.requires.scope_in now.within now.others c.in_ok-fold-in-Some.ensures.others (sym c.in-Some.ensures) now.names now.path (tells_one c.args.out.now.items c.push.new.self.items _ c.in_ok-push-in-Some.ensures.items) c.in_ok-fold-in-Some.ensures.told
 
 pub fold_scope-returns-in-None-clause-names : goal.fold_scope-returns-in-None-clause-names
 fold_scope-returns-in-None-clause-names t c =
@@ -108,7 +116,8 @@ fold_form-returns-in_ok-fold_declared-in-Declares-clause-names t c =
 
 pub fold_form-returns-in_ok-fold_declared-in-Declares-clause-told : goal.fold_form-returns-in_ok-fold_declared-in-Declares-clause-told
 fold_form-returns-in_ok-fold_declared-in-Declares-clause-told t c =
-    told_by c.args.index.now.paths c.fold_declared.new.index.paths c.args.index.now.named.items c.args.out.now.items c.fold_declared.new.out.items (P.Declares c.in-Declares.name c.in-Declares.what c.in-Declares.opens) _ c.args.here c.args.op (trees_of c.args.args.now) (trees_of c.args.body.now) (get_or c.args.index.now.paths c.args.scope []) c.in-Declares.ensures (c.in_ok-fold_declared-in-Declares.ensures.told c.args.here c.args.op)
+    told_by c.args.index.now.paths c.fold_declared.new.index.paths c.args.index.now.named.items c.args.out.now.items c.fold_declared.new.out.items (P.Declares c.in-Declares.name c.in-Declares.what c.in-Declares.opens) _ c.args.here c.args.op (trees_of c.args.args.now) (trees_of c.args.body.now)
+    (get_or c.args.index.now.paths c.args.scope []) c.in-Declares.ensures (c.in_ok-fold_declared-in-Declares.ensures.told c.args.here c.args.op)
 
 pub fold_form-returns-in_ok-fold_alias-in-Alias-clause-names : goal.fold_form-returns-in_ok-fold_alias-in-Alias-clause-names
 fold_form-returns-in_ok-fold_alias-in-Alias-clause-names t c =
@@ -124,7 +133,8 @@ fold_form-returns-in_ok-fold_external-in-External-clause-names t c =
 
 pub fold_form-returns-in_ok-fold_external-in-External-clause-told : goal.fold_form-returns-in_ok-fold_external-in-External-clause-told
 fold_form-returns-in_ok-fold_external-in-External-clause-told t c =
-    told_by c.args.index.now.paths c.fold_external.new.index.paths c.args.index.now.named.items c.args.out.now.items c.fold_external.new.out.items (P.External c.in-External.object c.in-External.parameters) _ c.args.here c.args.op (trees_of c.args.args.now) (trees_of c.args.body.now) (get_or c.args.index.now.paths c.args.scope []) c.in-External.ensures (c.in_ok-fold_external-in-External.ensures.told c.args.op (trees_of c.args.body.now))
+    told_by c.args.index.now.paths c.fold_external.new.index.paths c.args.index.now.named.items c.args.out.now.items c.fold_external.new.out.items (P.External c.in-External.object c.in-External.parameters) _ c.args.here c.args.op (trees_of c.args.args.now) (trees_of c.args.body.now)
+    (get_or c.args.index.now.paths c.args.scope []) c.in-External.ensures (c.in_ok-fold_external-in-External.ensures.told c.args.op (trees_of c.args.body.now))
 
 pub fold_form-returns-in_ok-fold_scope-in-Scope-clause-names : goal.fold_form-returns-in_ok-fold_scope-in-Scope-clause-names
 fold_form-returns-in_ok-fold_scope-in-Scope-clause-names t c =

@@ -31,7 +31,8 @@ returns-in-None-name_at-clause-names c body =
 
 pub returns-in-None-name_at-clause-told : goal.returns-in-None-name_at-clause-told
 returns-in-None-name_at-clause-told c here op body =
-    told_as c.args.index.now.paths c.args.index.now.paths c.args.index.now.named.items c.args.out.now.items c.args.out.now.items _ _ (λ d agrees. alias_no_name (trees_of c.args.args.now) body (get_or c.args.index.now.paths c.args.scope []) (spot_as here) op (named_as c.in-Some.source) d (sym c.in-Some.ensures) (sym c.in-None-name_at.ensures)) (told_no_more c.args.index.now.paths c.args.index.now.named.items c.args.out.now.items)
+    told_as c.args.index.now.paths c.args.index.now.paths c.args.index.now.named.items c.args.out.now.items c.args.out.now.items _ _
+    (λ d agrees. alias_no_name (trees_of c.args.args.now) body (get_or c.args.index.now.paths c.args.scope []) (spot_as here) op (named_as c.in-Some.source) d (sym c.in-Some.ensures) (sym c.in-None-name_at.ensures)) (told_no_more c.args.index.now.paths c.args.index.now.named.items c.args.out.now.items)
 
 pub returns-in-None-clause-told : goal.returns-in-None-clause-told
 returns-in-None-clause-told c here op body =

@@ -24,4 +24,5 @@ returns-in-None-clause-names c body =
 
 pub returns-in-None-clause-told : goal.returns-in-None-clause-told
 returns-in-None-clause-told c op body =
-    told_as c.args.index.now.paths c.args.index.now.paths c.args.index.now.named.items c.args.out.now.items c.args.out.now.items _ _ (λ d agrees. external_untold (trees_of c.args.args.now) body (get_or c.args.index.now.paths c.args.scope []) (spot_as c.args.here) op c.args.object c.args.parameters d (sym c.in-None.ensures)) (told_no_more c.args.index.now.paths c.args.index.now.named.items c.args.out.now.items)
+    told_as c.args.index.now.paths c.args.index.now.paths c.args.index.now.named.items c.args.out.now.items c.args.out.now.items _ _
+    (λ d agrees. external_untold (trees_of c.args.args.now) body (get_or c.args.index.now.paths c.args.scope []) (spot_as c.args.here) op c.args.object c.args.parameters d (sym c.in-None.ensures)) (told_no_more c.args.index.now.paths c.args.index.now.named.items c.args.out.now.items)

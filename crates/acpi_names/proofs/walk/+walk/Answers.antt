@@ -13,7 +13,8 @@ values-value-requires t c = omega (arith, c.decreases, node_smaller c.args.nodes
 
 pub values-loop-node-preserved : goal.values-loop-node-preserved
 values-loop-node-preserved t c =
-    remains_next c.args.nodes.now c.loop-node.node-index c.node-item.result c.args.out.now.items c.loop-node.out.items c.value.new.out.items (λ ps. mentions c.args.asked (node_tree c.node-item.result) (get_or ps c.args.scope [])) (λ ps ts. mentions_all c.args.asked ts (get_or ps c.args.scope [])) (λ ps ts. mentions_all c.args.asked ts (get_or ps c.args.scope [])) (λ ps. mentions_all c.args.asked (trees_of c.args.nodes.now) (get_or ps c.args.scope [])) c.loop-node-test.true c.node-item.is (λ ps ts. refl) c.loop-node.invariant c.in_ok-value.ensures
+    remains_next c.args.nodes.now c.loop-node.node-index c.node-item.result c.args.out.now.items c.loop-node.out.items c.value.new.out.items (λ ps. mentions c.args.asked (node_tree c.node-item.result) (get_or ps c.args.scope [])) (λ ps ts. mentions_all c.args.asked ts (get_or ps c.args.scope [])) (λ ps ts. mentions_all c.args.asked ts (get_or ps c.args.scope []))
+    (λ ps. mentions_all c.args.asked (trees_of c.args.nodes.now) (get_or ps c.args.scope [])) c.loop-node-test.true c.node-item.is (λ ps ts. refl) c.loop-node.invariant c.in_ok-value.ensures
 
 pub values-returns : goal.values-returns
 values-returns t c =
@@ -24,7 +25,8 @@ elements-value-requires t c = omega (arith, c.decreases, node_smaller c.args.nod
 
 pub elements-loop-node-preserved : goal.elements-loop-node-preserved
 elements-loop-node-preserved t c =
-    remains_next c.args.nodes.now c.loop-node.node-index c.node-item.result c.args.out.now.items c.loop-node.out.items c.value.new.out.items (λ ps. mentions c.asks_element.result (node_tree c.node-item.result) (get_or ps c.args.scope [])) (λ ps ts. element_mentions c.args.asked ts (get_or ps c.args.scope [])) (λ ps ts. element_mentions c.args.asked ts (get_or ps c.args.scope [])) (λ ps. element_mentions c.args.asked (trees_of c.args.nodes.now) (get_or ps c.args.scope [])) c.loop-node-test.true c.node-item.is (λ ps ts. ap (λ b. mentions b (node_tree c.node-item.result) (get_or ps c.args.scope []) ++ element_mentions c.args.asked ts (get_or ps c.args.scope [])) (sym c.asks_element.ensures)) c.loop-node.invariant c.in_ok-value.ensures
+    remains_next c.args.nodes.now c.loop-node.node-index c.node-item.result c.args.out.now.items c.loop-node.out.items c.value.new.out.items (λ ps. mentions c.asks_element.result (node_tree c.node-item.result) (get_or ps c.args.scope [])) (λ ps ts. element_mentions c.args.asked ts (get_or ps c.args.scope [])) (λ ps ts. element_mentions c.args.asked ts (get_or ps c.args.scope []))
+    (λ ps. element_mentions c.args.asked (trees_of c.args.nodes.now) (get_or ps c.args.scope [])) c.loop-node-test.true c.node-item.is (λ ps ts. ap (λ b. mentions b (node_tree c.node-item.result) (get_or ps c.args.scope []) ++ element_mentions c.args.asked ts (get_or ps c.args.scope [])) (sym c.asks_element.ensures)) c.loop-node.invariant c.in_ok-value.ensures
 
 pub elements-returns : goal.elements-returns
 elements-returns t c =
@@ -104,13 +106,16 @@ operands-argument-requires t c = omega (arith, c.decreases, node_smaller c.args.
 
 pub operands-loop-index-preserved : goal.operands-loop-index-preserved
 operands-loop-index-preserved t c =
-    remains_next c.args.nodes.now c.loop-index.index c.index-nodes-index.result c.args.out.now.items c.loop-index.out.items c.argument.new.out.items (λ ps. optional_mentions c.args.asked (asked_as c.args.uses) c.letter_at.result (node_tree c.index-nodes-index.result) (get_or ps c.args.scope [])) (λ ps ts. argument_mentions c.args.asked (asked_as c.args.uses) (drop c.loop-index.index (letters_as c.args.letters.now)) ts (get_or ps c.args.scope [])) (λ ps ts. argument_mentions c.args.asked (asked_as c.args.uses) (drop (c.loop-index.index + 1) (letters_as c.args.letters.now)) ts (get_or ps c.args.scope [])) (λ ps. argument_mentions c.args.asked (asked_as c.args.uses) (letters_as c.args.letters.now) (trees_of c.args.nodes.now) (get_or ps c.args.scope [])) c.loop-index-test.true c.index-nodes-index.is
+    remains_next c.args.nodes.now c.loop-index.index c.index-nodes-index.result c.args.out.now.items c.loop-index.out.items c.argument.new.out.items (λ ps. optional_mentions c.args.asked (asked_as c.args.uses) c.letter_at.result (node_tree c.index-nodes-index.result) (get_or ps c.args.scope []))
+    (λ ps ts. argument_mentions c.args.asked (asked_as c.args.uses) (drop c.loop-index.index (letters_as c.args.letters.now)) ts (get_or ps c.args.scope [])) (λ ps ts. argument_mentions c.args.asked (asked_as c.args.uses) (drop (c.loop-index.index + 1) (letters_as c.args.letters.now)) ts (get_or ps c.args.scope []))
+    (λ ps. argument_mentions c.args.asked (asked_as c.args.uses) (letters_as c.args.letters.now) (trees_of c.args.nodes.now) (get_or ps c.args.scope [])) c.loop-index-test.true c.index-nodes-index.is
     (λ ps ts. argument_next c.args.asked (asked_as c.args.uses) c.args.letters.now c.loop-index.index (node_tree c.index-nodes-index.result) ts (get_or ps c.args.scope [])
     ∙ ap (λ o. optional_mentions c.args.asked (asked_as c.args.uses) o (node_tree c.index-nodes-index.result) (get_or ps c.args.scope []) ++ argument_mentions c.args.asked (asked_as c.args.uses) (drop (c.loop-index.index + 1) (letters_as c.args.letters.now)) ts (get_or ps c.args.scope [])) (sym c.letter_at.ensures)) c.loop-index.invariant c.in_ok-argument.ensures
 
 pub operands-returns : goal.operands-returns
 operands-returns t c =
-    remains_none c.args.nodes.now c.loop-index.index c.args.out.now.items c.loop-index.out.items (λ ps ts. argument_mentions c.args.asked (asked_as c.args.uses) (drop c.loop-index.index (letters_as c.args.letters.now)) ts (get_or ps c.args.scope [])) (λ ps. argument_mentions c.args.asked (asked_as c.args.uses) (letters_as c.args.letters.now) (trees_of c.args.nodes.now) (get_or ps c.args.scope [])) c.loop-index-test.false (λ ps. refl) c.loop-index.invariant
+    remains_none c.args.nodes.now c.loop-index.index c.args.out.now.items c.loop-index.out.items (λ ps ts. argument_mentions c.args.asked (asked_as c.args.uses) (drop c.loop-index.index (letters_as c.args.letters.now)) ts (get_or ps c.args.scope []))
+    (λ ps. argument_mentions c.args.asked (asked_as c.args.uses) (letters_as c.args.letters.now) (trees_of c.args.nodes.now) (get_or ps c.args.scope [])) c.loop-index-test.false (λ ps. refl) c.loop-index.invariant
 
 pub sought-returns-in_ok-push-in-Name : goal.sought-returns-in_ok-push-in-Name
 sought-returns-in_ok-push-in-Name t c =

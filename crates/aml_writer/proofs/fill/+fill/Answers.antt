@@ -1,11 +1,11 @@
 use Rattle.std.proofs.Common.{List, ◌≡◌, ◌+◌, ◌-◌, ◌<◌, [], length, take, drop, sym, ap, ◌∙◌, subst, arith}
 use Rattle.std.proofs.lemmas.List.{take_all, drop_all}
 use Rattle.asl_tree.specs.declared.term.Node.{Node}
-use Rattle.aml_writer.specs.TermBytes.{nodes_bytes}
-use Rattle.aml_writer.specs.Rooms.{nodes_parts, EndsIn, Fills}
-use Rattle.aml_writer.proofs.Weights.{term_weight, form_weight, node_weight, opened_weight}
-use Rattle.aml_writer.proofs.NodePieces.{grown_by, next_size, size_done, container_put}
-use Rattle.aml_writer.proofs.ElseIfs.{first_and_rest, own_parts_are, else_if_parts_are, else_if_length}
+use Rattle.aml_sizes.specs.TermBytes.{nodes_bytes}
+use Rattle.aml_writer.specs.Fills.{nodes_parts, EndsIn, Fills}
+use Rattle.aml_sizes.proofs.Weights.{term_weight, form_weight, node_weight, opened_weight}
+use Rattle.aml_sizes.proofs.NodePieces.{grown_by, next_size, size_done, container_put}
+use Rattle.aml_writer.proofs.ElseIfParts.{first_and_rest, own_parts_are, else_if_parts_are, else_if_length}
 use Rattle.aml_writer.proofs.Parts.{own_ends, own_head_ends, own_filled, rest_ends, inner_ends, joint_ends, joint_filled, joint_size, none_parts, node_ends, next_ends, next_filled, container_parts}
 use Rattle.aml_writer.proofs.fill.+fill.Goals as goal
 
@@ -25,27 +25,41 @@ fill_else_if-fill_terms-requires-2 t c = (omega (arith, c.decreases), inner_ends
 
 pub fill_else_if-fill_else_if_head-requires-clause-ends : goal.fill_else_if-fill_else_if_head-requires-clause-ends
 fill_else_if-fill_else_if_head-requires-clause-ends t c =
-    joint_ends c.args.style c.args.op c.args.args.now c.args.first_op c.args.first_args.now c.args.inner.now c.args.rest.now (c.fill_terms-2.new.filling.size - c.fill_terms.new.filling.size) (c.fill_terms.new.filling.size - c.args.filling.now.size) c.args.filling.now.spaces.items c.fill_terms.new.filling.spaces.items c.fill_terms-2.new.filling.spaces.items c.args.filling.now.pieces.items c.fill_terms.new.filling.pieces.items c.fill_terms-2.new.filling.pieces.items c.requires c.fill_terms.ensures.fills c.fill_terms-2.ensures.fills (grown_by _ _ _ c.fill_terms-2.ensures.size) (grown_by _ _ _ c.fill_terms.ensures.size)
+    joint_ends c.args.style c.args.op c.args.args.now c.args.first_op c.args.first_args.now c.args.inner.now c.args.rest.now (c.fill_terms-2.new.filling.size - c.fill_terms.new.filling.size) (c.fill_terms.new.filling.size - c.args.filling.now.size)
+    c.args.filling.now.spaces.items c.fill_terms.new.filling.spaces.items c.fill_terms-2.new.filling.spaces.items c.args.filling.now.pieces.items c.fill_terms.new.filling.pieces.items c.fill_terms-2.new.filling.pieces.items
+    c.requires c.fill_terms.ensures.fills c.fill_terms-2.ensures.fills (grown_by _ _ _ c.fill_terms-2.ensures.size) (grown_by _ _ _ c.fill_terms.ensures.size)
 
 pub fill_else_if-returns-clause-fills : goal.fill_else_if-returns-clause-fills
 fill_else_if-returns-clause-fills t c =
-    joint_filled c.args.style c.args.op c.args.args.now c.args.first_op c.args.first_args.now c.args.inner.now c.args.rest.now (c.fill_terms-2.new.filling.size - c.fill_terms.new.filling.size) (c.fill_terms.new.filling.size - c.args.filling.now.size) c.args.filling.now.spaces.items c.fill_terms.new.filling.spaces.items c.fill_terms-2.new.filling.spaces.items c.fill_else_if_head.new.filling.spaces.items c.args.filling.now.pieces.items c.fill_terms.new.filling.pieces.items c.fill_terms-2.new.filling.pieces.items c.fill_else_if_head.new.filling.pieces.items c.fill_terms.ensures.fills c.fill_terms-2.ensures.fills c.fill_else_if_head.ensures.fills (grown_by _ _ _ c.fill_terms-2.ensures.size) (grown_by _ _ _ c.fill_terms.ensures.size)
+    joint_filled c.args.style c.args.op c.args.args.now c.args.first_op c.args.first_args.now c.args.inner.now c.args.rest.now (c.fill_terms-2.new.filling.size - c.fill_terms.new.filling.size) (c.fill_terms.new.filling.size - c.args.filling.now.size)
+    c.args.filling.now.spaces.items c.fill_terms.new.filling.spaces.items c.fill_terms-2.new.filling.spaces.items c.fill_else_if_head.new.filling.spaces.items c.args.filling.now.pieces.items c.fill_terms.new.filling.pieces.items c.fill_terms-2.new.filling.pieces.items c.fill_else_if_head.new.filling.pieces.items
+    c.fill_terms.ensures.fills c.fill_terms-2.ensures.fills c.fill_else_if_head.ensures.fills (grown_by _ _ _ c.fill_terms-2.ensures.size) (grown_by _ _ _ c.fill_terms.ensures.size)
 
 pub fill_else_if-returns-clause-size : goal.fill_else_if-returns-clause-size
 fill_else_if-returns-clause-size t c =
-    joint_size c.args.style c.args.op c.args.args.now c.args.first_op c.args.first_args.now c.args.inner.now c.args.rest.now (c.fill_terms-2.new.filling.size - c.fill_terms.new.filling.size) (c.fill_terms.new.filling.size - c.args.filling.now.size) c.args.filling.now.size c.fill_terms.new.filling.size c.fill_terms-2.new.filling.size c.fill_else_if_head.new.filling.size (grown_by _ _ _ c.fill_terms-2.ensures.size) (grown_by _ _ _ c.fill_terms.ensures.size) c.fill_terms.ensures.size c.fill_terms-2.ensures.size c.fill_else_if_head.ensures.size
+    joint_size c.args.style c.args.op c.args.args.now c.args.first_op c.args.first_args.now c.args.inner.now c.args.rest.now (c.fill_terms-2.new.filling.size - c.fill_terms.new.filling.size) (c.fill_terms.new.filling.size - c.args.filling.now.size)
+    c.args.filling.now.size c.fill_terms.new.filling.size c.fill_terms-2.new.filling.size c.fill_else_if_head.new.filling.size (grown_by _ _ _ c.fill_terms-2.ensures.size) (grown_by _ _ _ c.fill_terms.ensures.size) c.fill_terms.ensures.size c.fill_terms-2.ensures.size c.fill_else_if_head.ensures.size
 
 pub fill_opened-fill_else_if-requires : goal.fill_opened-fill_else_if-requires
 fill_opened-fill_else_if-requires t c =
-    let inside = opened_weight c.args.body.now c.first-item.result (take (length c.args.body.now - 1) (drop 1 c.args.body.now)) c.in-Form.first_op c.in-Form.first_args c.in-Form.inner c.deref-in-Form.result.now (first_and_rest c.args.body.now c.first-item.result c.in-len1-up.len_at_least c.first-item.is) c.in-Form.is c.deref-in-Form.ensures.value in
-    (omega (arith, c.decreases, inside), subst (EndsIn c.args.filling.now.spaces.items) (else_if_parts_are c.args.style c.args.place c.args.op c.args.args.now c.args.body.now c.first-item.result (take (length c.args.body.now - 1) (drop 1 c.args.body.now)) c.in-Form.first_op c.in-Form.first_args c.in-Form.inner c.deref.result.now c.deref-in-Form.result.now (first_and_rest c.args.body.now c.first-item.result c.in-len1-up.len_at_least c.first-item.is) c.in-Form.is c.deref.ensures.value c.deref-in-Form.ensures.value c.requires.opens) c.requires.ends)
+    let inside = opened_weight c.args.body.now c.first-item.result (take (length c.args.body.now - 1) (drop 1 c.args.body.now)) c.in-Form.first_op c.in-Form.first_args c.in-Form.inner c.deref-in-Form.result.now (first_and_rest c.args.body.now c.first-item.result c.in-len1-up.len_at_least c.first-item.is) c.in-Form.is c.deref-in-Form.ensures.value in (
+      omega (arith, c.decreases, inside),
+      subst (EndsIn c.args.filling.now.spaces.items)
+          (else_if_parts_are c.args.style c.args.place c.args.op c.args.args.now c.args.body.now c.first-item.result (take (length c.args.body.now - 1) (drop 1 c.args.body.now))
+          c.in-Form.first_op c.in-Form.first_args c.in-Form.inner c.deref.result.now c.deref-in-Form.result.now (first_and_rest c.args.body.now c.first-item.result c.in-len1-up.len_at_least c.first-item.is) c.in-Form.is c.deref.ensures.value c.deref-in-Form.ensures.value c.requires.opens) c.requires.ends,
+    )
 
 pub fill_opened-returns-clause-fills : goal.fill_opened-returns-clause-fills
 fill_opened-returns-clause-fills t c =
-    subst (λ parts. Fills parts c.args.filling.now.spaces.items c.fill_else_if.new.filling.spaces.items c.args.filling.now.pieces.items c.fill_else_if.new.filling.pieces.items) (sym (else_if_parts_are c.args.style c.args.place c.args.op c.args.args.now c.args.body.now c.first-item.result (take (length c.args.body.now - 1) (drop 1 c.args.body.now)) c.in-Form.first_op c.in-Form.first_args c.in-Form.inner c.deref.result.now c.deref-in-Form.result.now (first_and_rest c.args.body.now c.first-item.result c.in-len1-up.len_at_least c.first-item.is) c.in-Form.is c.deref.ensures.value c.deref-in-Form.ensures.value c.requires.opens)) c.fill_else_if.ensures.fills
+    subst (λ parts. Fills parts c.args.filling.now.spaces.items c.fill_else_if.new.filling.spaces.items c.args.filling.now.pieces.items c.fill_else_if.new.filling.pieces.items)
+    (sym (else_if_parts_are c.args.style c.args.place c.args.op c.args.args.now c.args.body.now c.first-item.result (take (length c.args.body.now - 1) (drop 1 c.args.body.now))
+    c.in-Form.first_op c.in-Form.first_args c.in-Form.inner c.deref.result.now c.deref-in-Form.result.now (first_and_rest c.args.body.now c.first-item.result c.in-len1-up.len_at_least c.first-item.is) c.in-Form.is c.deref.ensures.value c.deref-in-Form.ensures.value c.requires.opens)) c.fill_else_if.ensures.fills
 
 pub fill_opened-returns-clause-size : goal.fill_opened-returns-clause-size
-fill_opened-returns-clause-size t c = c.fill_else_if.ensures.size ∙ ap (λ n. c.args.filling.now.size + n) (sym (else_if_length c.args.style c.args.place c.args.op c.args.args.now c.args.body.now c.first-item.result (take (length c.args.body.now - 1) (drop 1 c.args.body.now)) c.in-Form.first_op c.in-Form.first_args c.in-Form.inner c.deref.result.now c.deref-in-Form.result.now (first_and_rest c.args.body.now c.first-item.result c.in-len1-up.len_at_least c.first-item.is) c.in-Form.is c.deref.ensures.value c.deref-in-Form.ensures.value c.requires.opens))
+fill_opened-returns-clause-size t c =
+    c.fill_else_if.ensures.size ∙ ap (λ n. c.args.filling.now.size + n)
+    (sym (else_if_length c.args.style c.args.place c.args.op c.args.args.now c.args.body.now c.first-item.result (take (length c.args.body.now - 1) (drop 1 c.args.body.now))
+    c.in-Form.first_op c.in-Form.first_args c.in-Form.inner c.deref.result.now c.deref-in-Form.result.now (first_and_rest c.args.body.now c.first-item.result c.in-len1-up.len_at_least c.first-item.is) c.in-Form.is c.deref.ensures.value c.deref-in-Form.ensures.value c.requires.opens))
 
 pub fill_own-fill_terms-requires : goal.fill_own-fill_terms-requires
 fill_own-fill_terms-requires t c = (omega (arith, c.decreases), own_ends c.args.style c.args.op c.args.args.now c.args.body.now c.args.filling.now.spaces.items c.requires)
@@ -54,7 +68,9 @@ pub fill_own-fill_head-requires-clause-ends : goal.fill_own-fill_head-requires-c
 fill_own-fill_head-requires-clause-ends t c = own_head_ends c.args.style c.args.op c.args.args.now c.args.body.now (c.fill_terms.new.filling.size - c.args.filling.now.size) c.args.filling.now.spaces.items c.fill_terms.new.filling.spaces.items c.args.filling.now.pieces.items c.fill_terms.new.filling.pieces.items c.requires c.fill_terms.ensures.fills (grown_by _ _ _ c.fill_terms.ensures.size)
 
 pub fill_own-returns-clause-fills : goal.fill_own-returns-clause-fills
-fill_own-returns-clause-fills t c = own_filled c.args.style c.args.op c.args.args.now c.args.body.now (c.fill_terms.new.filling.size - c.args.filling.now.size) c.args.filling.now.spaces.items c.fill_terms.new.filling.spaces.items c.fill_head.new.filling.spaces.items c.args.filling.now.pieces.items c.fill_terms.new.filling.pieces.items c.fill_head.new.filling.pieces.items c.fill_terms.ensures.fills c.fill_head.ensures.fills (grown_by _ _ _ c.fill_terms.ensures.size)
+fill_own-returns-clause-fills t c =
+    own_filled c.args.style c.args.op c.args.args.now c.args.body.now (c.fill_terms.new.filling.size - c.args.filling.now.size)
+    c.args.filling.now.spaces.items c.fill_terms.new.filling.spaces.items c.fill_head.new.filling.spaces.items c.args.filling.now.pieces.items c.fill_terms.new.filling.pieces.items c.fill_head.new.filling.pieces.items c.fill_terms.ensures.fills c.fill_head.ensures.fills (grown_by _ _ _ c.fill_terms.ensures.size)
 
 pub fill_term-fill_container-requires : goal.fill_term-fill_container-requires
 fill_term-fill_container-requires t c =
@@ -63,7 +79,8 @@ fill_term-fill_container-requires t c =
 
 pub fill_term-returns-then-holds_terms-clause-fills : goal.fill_term-returns-then-holds_terms-clause-fills
 fill_term-returns-then-holds_terms-clause-fills t c =
-    subst (λ parts. Fills parts c.args.filling.now.spaces.items c.fill_container.new.filling.spaces.items c.args.filling.now.pieces.items c.fill_container.new.filling.pieces.items) (sym (container_parts c.args.style c.args.node.now.place c.in-Form.op c.in-Form.args c.in-Form.body c.args.node.now.term c.deref-then-holds_terms.result.now c.deref.result.now c.in-Form.is c.deref-then-holds_terms.ensures.value c.deref.ensures.value (sym c.holds_terms.ensures ∙ c.if-holds_terms.true))) c.fill_container.ensures.fills
+    subst (λ parts. Fills parts c.args.filling.now.spaces.items c.fill_container.new.filling.spaces.items c.args.filling.now.pieces.items c.fill_container.new.filling.pieces.items)
+    (sym (container_parts c.args.style c.args.node.now.place c.in-Form.op c.in-Form.args c.in-Form.body c.args.node.now.term c.deref-then-holds_terms.result.now c.deref.result.now c.in-Form.is c.deref-then-holds_terms.ensures.value c.deref.ensures.value (sym c.holds_terms.ensures ∙ c.if-holds_terms.true))) c.fill_container.ensures.fills
 
 pub fill_term-returns-then-holds_terms-clause-size : goal.fill_term-returns-then-holds_terms-clause-size
 fill_term-returns-then-holds_terms-clause-size t c =

@@ -1,7 +1,7 @@
 use Rattle.std.proofs.Common.{◌≡◌, ◌≤◌, ◌+◌, ◌*◌, [], length, take, drop}
-use Rattle.aml_writer.specs.TermBytes.{nodes_bytes}
-use Rattle.aml_writer.specs.Rooms.{nodes_parts, EndsIn, Fills}
-use Rattle.aml_writer.proofs.Weights.{term_weight, nodes_weight}
+use Rattle.aml_sizes.specs.TermBytes.{nodes_bytes}
+use Rattle.aml_writer.specs.Fills.{nodes_parts, EndsIn, Fills}
+use Rattle.aml_sizes.proofs.Weights.{term_weight, nodes_weight}
 use Rattle.aml_writer.proofs.fill.+fill.Given as goal
 
 -- the room that is left, and what is put in

@@ -1,5 +1,5 @@
 use Rattle.std.proofs.Common.{sym, subst}
-use Rattle.aml_writer.specs.Rooms.{EndsIn, Fills}
+use Rattle.aml_writer.specs.Fills.{EndsIn, Fills}
 use Rattle.aml_writer.proofs.Parts.{whole_parts}
 use Rattle.aml_writer.proofs.fill.fill_alone.Goals as goal
 

@@ -1,9 +1,11 @@
-use Rattle.aml_writer.specs.Codes.{letters_of}
-use Rattle.aml_writer.specs.TermBytes.{nodes_bytes}
-use Rattle.aml_writer.specs.Pieces.{else_if_bytes}
-use Rattle.aml_writer.proofs.Rooms.{one_put}
+use Rattle.aml_sizes.specs.Codes.{letters_of}
+use Rattle.aml_sizes.specs.TermBytes.{nodes_bytes}
+use Rattle.aml_sizes.specs.Pieces.{else_if_bytes}
+use Rattle.aml_writer.proofs.Fills.{one_put}
 use Rattle.aml_writer.proofs.fill.fill_else_if_head.Goals as goal
 
 pub returns-clause-fills : goal.returns-clause-fills
 returns-clause-fills c =
-    one_put (else_if_bytes c.args.op (nodes_bytes c.args.style (letters_of c.args.op) c.args.args.now) c.args.first_op (nodes_bytes c.args.style (letters_of c.args.first_op) c.args.first_args.now) c.args.inner c.args.later) c.text_of_else_if-bytes.result c.args.filling.now.spaces.items c.next-space.new.self.spaces.items c.put.new.self.spaces.items c.next-space.result c.args.filling.now.pieces.items c.next-space.new.self.pieces.items c.put.new.self.pieces.items c.next-space.ensures.spaces c.next-space.ensures.pieces c.put.ensures.spaces c.next-space.ensures.count c.text_of_else_if-bytes.ensures c.put.ensures.pieces
+    one_put (else_if_bytes c.args.op (nodes_bytes c.args.style (letters_of c.args.op) c.args.args.now) c.args.first_op (nodes_bytes c.args.style (letters_of c.args.first_op) c.args.first_args.now) c.args.inner c.args.later)
+    c.text_of_else_if-bytes.result c.args.filling.now.spaces.items c.next-space.new.self.spaces.items c.put.new.self.spaces.items c.next-space.result c.args.filling.now.pieces.items c.next-space.new.self.pieces.items c.put.new.self.pieces.items
+    c.next-space.ensures.spaces c.next-space.ensures.pieces c.put.ensures.spaces c.next-space.ensures.count c.text_of_else_if-bytes.ensures c.put.ensures.pieces

@@ -1,8 +1,8 @@
 use Rattle.std.proofs.Common.{◌≡◌, ◌+◌, ◌++◌, [], ◌∷◌, length, drop, map, sym, ap, ◌∙◌, subst, rules}
 use Rattle.aml_code.specs.Header.{header_length, header_with, checksum_of, fields_of}
-use Rattle.aml_writer.specs.Pieces.{joined_pieces}
-use Rattle.aml_writer.specs.Rooms.{bytes_of, joined_parts, Fills, header_for}
-use Rattle.aml_writer.proofs.Rooms.{parts_joined, tail_is}
+use Rattle.aml_sizes.specs.Pieces.{joined_pieces}
+use Rattle.aml_writer.specs.Fills.{bytes_of, joined_parts, Fills, header_for}
+use Rattle.aml_writer.proofs.Fills.{parts_joined, tail_is}
 use Rattle.aml_writer.proofs.fill.fill_header.Goals as goal
 
 pub returns : goal.returns

@@ -1,8 +1,8 @@
 use Rattle.std.proofs.Common.{refl}
 use Rattle.asl_tree.specs.Tree.{no_trees, tree}
 use Rattle.asl_tree.specs.View.{trees_of}
-use Rattle.asl_formats.specs.Forms.{spread}
-use Rattle.asl_formats.specs.Nodes.{node_tree}
+use Rattle.asl_prints.specs.Forms.{spread}
+use Rattle.asl_prints.specs.Nodes.{node_tree}
 use Rattle.asl_formats.proofs.Bare.{bare_does}
 use Rattle.asl_formats.proofs.Fors.{spread_does}
 use Rattle.asl_formats.proofs.for_loop.for_form.Goals as goal

@@ -1,12 +1,12 @@
 use Rattle.std.proofs.Common.{◌≡◌, ap, ◌∙◌, arith}
 use Rattle.asl_tree.specs.View.{trees_of}
-use Rattle.asl_formats.specs.Forms.{followed, stepped_all}
+use Rattle.asl_prints.specs.Forms.{followed, stepped_all}
 use Rattle.asl_shape.specs.Plans.{join, plan_of, plans_of}
 use Rattle.asl_formats.specs.Plain.{is_plain}
-use Rattle.asl_formats.specs.Plans as P
+use Rattle.asl_prints.specs.Plans as P
 use Rattle.asl_formats.specs.Bare.{shown}
-use Rattle.asl_formats.specs.Nodes.{for_parts}
-use Rattle.asl_formats.specs.Numbers.{numbers_of}
+use Rattle.asl_formats.specs.Steps.{for_parts}
+use Rattle.asl_prints.specs.Numbers.{numbers_of}
 use Rattle.asl_formats.proofs.Shown.{keeps_none, keeps_shown, may_renew, parts_shown}
 use Rattle.asl_formats.proofs.Fors.{few_made, many_made}
 use Rattle.asl_formats.proofs.StepNumbers.{parts_numbers}

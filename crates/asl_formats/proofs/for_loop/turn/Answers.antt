@@ -1,8 +1,8 @@
 use Rattle.std.proofs.Common.{[], ◌∷◌, ◌∙◌}
 use Rattle.asl_tree.specs.View.{trees_of}
 use Rattle.asl_shape.specs.Plans.{plans_of}
-use Rattle.asl_formats.specs.Forms.{followed, stepped_all}
-use Rattle.asl_formats.specs.Numbers.{Step, numbers_of, stepped_nodes}
+use Rattle.asl_prints.specs.Forms.{followed, stepped_all}
+use Rattle.asl_prints.specs.Numbers.{Step, numbers_of, stepped_nodes}
 use Rattle.asl_formats.proofs.Shown.{same_shown, turn_shown}
 use Rattle.asl_formats.proofs.StepNumbers.{advance}
 use Rattle.asl_formats.proofs.for_loop.turn.Goals as goal

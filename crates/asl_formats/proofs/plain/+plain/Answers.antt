@@ -1,5 +1,5 @@
 use Rattle.std.proofs.Common.{sym, ◌∙◌, arith}
-use Rattle.asl_formats.proofs.Nodes.{node_smaller, call_smaller, form_smaller}
+use Rattle.asl_prints.proofs.Nodes.{node_smaller, call_smaller, form_smaller}
 use Rattle.asl_formats.proofs.PlainTerms.{form_plain, other_plain, next_plain, other_found, all_found}
 use Rattle.asl_formats.proofs.plain.+plain.Goals as goal
 

@@ -1,5 +1,5 @@
 use Rattle.std.proofs.Common.{◌+◌, ◌*◌}
-use Rattle.asl_formats.specs.Nodes.{nodes_size, term_size}
+use Rattle.asl_prints.specs.Nodes.{nodes_size, term_size}
 use Rattle.asl_formats.proofs.PlainTerms.{Found}
 use Rattle.asl_formats.proofs.plain.+plain.Given as goal
 

@@ -1,5 +1,5 @@
 use Rattle.std.proofs.Common.{sym, ◌∙◌, arith}
-use Rattle.asl_formats.proofs.Nodes.{node_smaller, call_smaller, form_smaller}
+use Rattle.asl_prints.proofs.Nodes.{node_smaller, call_smaller, form_smaller}
 use Rattle.asl_formats.proofs.Asked.{form_asked, next_asked, asked_here, none_asked}
 use Rattle.asl_formats.proofs.present.+present.Goals as goal
 

@@ -1,5 +1,5 @@
 use Rattle.std.proofs.Common.{◌+◌, ◌*◌}
-use Rattle.asl_formats.specs.Nodes.{nodes_size, term_size}
+use Rattle.asl_prints.specs.Nodes.{nodes_size, term_size}
 use Rattle.asl_formats.proofs.Asked.{Asked}
 use Rattle.asl_formats.proofs.present.+present.Given as goal
 

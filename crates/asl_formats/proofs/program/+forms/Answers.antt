@@ -3,7 +3,7 @@ use Rattle.asl_tree.specs.View.{trees_of}
 use Rattle.asl_shape.specs.Plans.{plans_of}
 use Rattle.asl_formats.specs.Pass.{spread_all}
 use Rattle.asl_formats.specs.PlanPass as P
-use Rattle.asl_formats.proofs.Nodes.{call_smaller, form_smaller}
+use Rattle.asl_prints.proofs.Nodes.{call_smaller, form_smaller}
 use Rattle.asl_formats.proofs.Programs.{all_spread, call_formed, each_begun, each_done, each_next, form_formed, other_formed, popped_size}
 use Rattle.asl_formats.proofs.PlanPrograms as L
 use Rattle.asl_formats.proofs.program.+forms.Goals as goal

@@ -1,10 +1,10 @@
 use Rattle.std.proofs.Common.{◌≡◌, ◌≤◌, ◌+◌, ◌*◌, length}
 use Rattle.asl_tree.specs.View.{trees_of}
 use Rattle.asl_shape.specs.Plans.{join, plans_of}
-use Rattle.asl_formats.specs.Forms.{followed, formed_args}
-use Rattle.asl_formats.specs.Nodes.{nodes_size, term_size}
+use Rattle.asl_prints.specs.Forms.{followed, formed_args}
+use Rattle.asl_prints.specs.Nodes.{nodes_size, term_size}
 use Rattle.asl_formats.specs.Pass.{backwards}
-use Rattle.asl_formats.specs.Plans as P
+use Rattle.asl_prints.specs.Plans as P
 use Rattle.asl_formats.specs.PlanPass.{backward_plans}
 use Rattle.asl_formats.proofs.program.+forms.Given as goal
 

@@ -1,6 +1,6 @@
 use Rattle.std.proofs.Common.{[], refl, arith}
-use Rattle.asl_formats.proofs.Nodes.{node_smaller, call_smaller, form_smaller}
-use Rattle.asl_formats.proofs.Copies.{plans_copied}
+use Rattle.asl_prints.proofs.Nodes.{node_smaller, call_smaller, form_smaller}
+use Rattle.asl_prints.proofs.Copies.{plans_copied}
 use Rattle.asl_formats.proofs.RenewNumbers.{plans_begun, node_renewed, node_behind, renewed_next, renewed_behind, none_begun, none_behind, call_renewed, call_behind, form_renewed, form_behind, other_renewed, other_behind}
 use Rattle.asl_formats.proofs.renew.+renew.Goals as goal
 

@@ -1,7 +1,7 @@
 use Rattle.std.proofs.Common.{◌≡◌, ◌+◌, ◌*◌, take}
 use Rattle.asl_shape.specs.Plans.{plans_of}
-use Rattle.asl_formats.specs.Nodes.{nodes_size, term_size}
-use Rattle.asl_formats.specs.Numbers.{anew, next_behind, numbered, numbers_of}
+use Rattle.asl_prints.specs.Nodes.{nodes_size, term_size}
+use Rattle.asl_prints.specs.Numbers.{anew, next_behind, numbered, numbers_of}
 use Rattle.asl_formats.proofs.renew.+renew.Given as goal
 
 abbrev pub invariant-renewed_all-loop-node : goal.invariant-renewed_all-loop-node

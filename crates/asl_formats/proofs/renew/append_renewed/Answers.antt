@@ -1,6 +1,6 @@
 use Rattle.std.proofs.Common.{ap}
 use Rattle.asl_formats.specs.Bare.{bare_all}
-use Rattle.asl_formats.specs.Numbers.{numbers_of}
+use Rattle.asl_prints.specs.Numbers.{numbers_of}
 use Rattle.asl_formats.proofs.Stepping.{appended_none}
 use Rattle.asl_formats.proofs.Shown.{bare_next}
 use Rattle.asl_formats.proofs.PlanSteps.{plans_none, plans_next}

@@ -3,8 +3,8 @@ use Rattle.asl_tree.specs.View.{trees_of}
 use Rattle.asl_shape.specs.Plans.{join, plans_of}
 use Rattle.asl_formats.specs.Bare.{bare_all}
 use Rattle.asl_formats.specs.Plain.{are_plain}
-use Rattle.asl_formats.specs.Forms.{followed}
-use Rattle.asl_formats.specs.Numbers.{anew, next_behind, numbered, numbers_of}
+use Rattle.asl_prints.specs.Forms.{followed}
+use Rattle.asl_prints.specs.Numbers.{anew, next_behind, numbered, numbers_of}
 use Rattle.asl_formats.proofs.renew.append_renewed.Given as goal
 
 abbrev pub invariant-loop-node : goal.invariant-loop-node

@@ -1,8 +1,8 @@
 use Rattle.std.proofs.Common.{◌≡◌, refl, sym, ◌∙◌, arith}
 use Rattle.asl_tree.specs.View.{trees_of}
 use Rattle.asl_shape.specs.Plans.{plans_of}
-use Rattle.asl_formats.specs.Numbers.{numbers_of}
-use Rattle.asl_formats.proofs.Nodes.{node_smaller, form_smaller}
+use Rattle.asl_prints.specs.Numbers.{numbers_of}
+use Rattle.asl_prints.proofs.Nodes.{node_smaller, form_smaller}
 use Rattle.asl_formats.proofs.PlanSteps.{plans_stepped_none, plans_stepped_next, form_plan_stepped, other_plan_stepped}
 use Rattle.asl_formats.proofs.Shown.{stepped_begun, stepped_next, stepped_last, form_shown, other_shown, same_shown, same_shown_term}
 use Rattle.asl_formats.proofs.StepNumbers.{nodes_begun, nodes_next, nodes_last, node_advances, form_advances, other_advances, inside_advances, outside_advances}

@@ -3,11 +3,11 @@ use Rattle.asl_tree.specs.View.{trees_of}
 use Rattle.asl_shape.specs.Plans.{plans_of}
 use Rattle.asl_formats.specs.Bare.{shown}
 use Rattle.asl_formats.specs.Plain.{MayRenew}
-use Rattle.asl_formats.specs.Forms.{stepped_all}
-use Rattle.asl_formats.specs.Numbers.{numbers_of, stepped_nodes}
+use Rattle.asl_prints.specs.Forms.{stepped_all}
+use Rattle.asl_prints.specs.Numbers.{numbers_of, stepped_nodes}
 use Rattle.asl_formats.specs.StepNumbers.{Advances}
-use Rattle.asl_formats.specs.Plans as P
-use Rattle.asl_formats.specs.Nodes.{nodes_size, term_size}
+use Rattle.asl_prints.specs.Plans as P
+use Rattle.asl_prints.specs.Nodes.{nodes_size, term_size}
 use Rattle.asl_formats.proofs.steps.+steps.Given as goal
 
 abbrev pub invariant-with_steps-loop-node : goal.invariant-with_steps-loop-node

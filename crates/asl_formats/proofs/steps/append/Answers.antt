@@ -1,7 +1,7 @@
-use Rattle.asl_formats.specs.Numbers.{numbers_of}
+use Rattle.asl_prints.specs.Numbers.{numbers_of}
 use Rattle.asl_formats.proofs.Stepping.{appended_none, appended_next}
 use Rattle.asl_formats.proofs.PlanSteps.{plans_none, plans_next}
-use Rattle.asl_formats.proofs.NodeNumbers.{numbers_copied, front_only}
+use Rattle.asl_prints.proofs.NodeNumbers.{numbers_copied, front_only}
 use Rattle.asl_formats.proofs.steps.append.Goals as goal
 
 pub loop-node-init : goal.loop-node-init

@@ -1,8 +1,8 @@
 use Rattle.std.proofs.Common.{◌≡◌, ◌++◌, take}
-use Rattle.asl_formats.specs.Numbers.{numbers_of}
+use Rattle.asl_prints.specs.Numbers.{numbers_of}
 use Rattle.asl_tree.specs.View.{trees_of}
 use Rattle.asl_shape.specs.Plans.{join, plans_of}
-use Rattle.asl_formats.specs.Forms.{followed}
+use Rattle.asl_prints.specs.Forms.{followed}
 use Rattle.asl_formats.proofs.steps.append.Given as goal
 
 abbrev pub invariant-loop-node : goal.invariant-loop-node

@@ -1,4 +1,4 @@
-use Rattle.asl_formats.specs.Numbers.{numbers_of}
+use Rattle.asl_prints.specs.Numbers.{numbers_of}
 use Rattle.asl_formats.proofs.StepNumbers.{before_next, before_other}
 use Rattle.asl_formats.proofs.steps.before.Goals as goal
 

@@ -1,4 +1,4 @@
-use Rattle.asl_formats.proofs.Layers.{next_is}
+use Rattle.asl_formats.proofs.SteppedTerms.{next_is}
 use Rattle.asl_formats.proofs.steps.is_next.Goals as goal
 
 pub returns-in-Form : goal.returns-in-Form

@@ -1,8 +1,8 @@
 use Rattle.std.proofs.Common.{sym, ◌∙◌}
 use Rattle.asl_tree.specs.View.{trees_of}
 use Rattle.asl_shape.specs.Plans.{plans_of}
-use Rattle.asl_formats.specs.Forms.{followed}
-use Rattle.asl_formats.specs.Numbers.{numbers_of}
+use Rattle.asl_prints.specs.Forms.{followed}
+use Rattle.asl_prints.specs.Numbers.{numbers_of}
 use Rattle.asl_formats.proofs.Shown.{kept_shown, put_renewed}
 use Rattle.asl_formats.proofs.StepNumbers.{put_kept, put_anew}
 use Rattle.asl_formats.proofs.steps.put_steps.Goals as goal

@@ -1,69 +1,73 @@
-use Rattle.std.proofs.Common.{◌≡◌, ◌∙◌, Ok, ap, sym, subst}
+use Rattle.std.proofs.Common.{Ok, sym, subst}
 use Rattle.asl_tree.specs.View.{trees_of}
 use Rattle.aml_code.specs.Header.{fields_of}
 use Rattle.asl_shape.specs.Plans.{plans_of}
-use Rattle.acpi_values.specs.Revisions.{width_of}
 use Rattle.source_pieces.specs.Places.{core_places}
-use Rattle.asl_tables.specs.Compiled.{of_right, unlowered, with_others}
-use Rattle.asl_tables.specs.Findings.{IsNamed, others_of}
-use Rattle.asl_tables.proofs.Findings.{found_of, right_numbers, wrong_all, right_all}
+use Rattle.block_checks.specs.Findings.{IsNamed}
+use Rattle.block_checks.specs.Present.{IsPresenceOf}
+use Rattle.block_checks.specs.Told.{with_others}
+use Rattle.asl_tables.specs.Compiled.{of_right, unlowered}
+use Rattle.asl_tables.proofs.Findings.{found_of, none_else, right_numbers, wrong_all, right_all}
 use Rattle.asl_tables.proofs.compile.compile_noted.Goals as goal
 
 pub find-requires : goal.find-requires
-find-requires g c = subst (λ ns. IsNamed c.args.asked.names g.told (trees_of ns)) (sym c.as_slice-terms.ensures.value) c.requires.1.1.0
+find-requires g c = (
+  subst (λ ns. IsNamed c.args.checked.names g.told (trees_of ns)) (sym c.as_slice-terms.ensures.value) c.requires.1.1.0,
+  subst (λ ns. IsPresenceOf (plans_of ns) c.args.checked.present) (sym c.as_slice-terms.ensures.value) c.requires.1.1.1.0,
+)
 
 pub table_of-requires-clause-shaped : goal.table_of-requires-clause-shaped
 table_of-requires-clause-shaped g c =
-    let block = c.args.block in
-    let found = found_of c.in_ok-names.field-0 g.told c.in_ok-others.others (others_of (width_of block.revision) (plans_of block.terms.items) c.args.asked.regions c.args.asked.types) block.place c.as_slice-terms.result.now block.terms.items c.as_slice-terms.ensures.value
-    (c.in_ok-others.ensures ∙ ap (λ w. others_of w (plans_of c.as_slice-terms.result.now) c.args.asked.regions c.args.asked.types) c.of_revision-width.ensures ∙ ap (λ ns. others_of (width_of block.revision) (plans_of ns) c.args.asked.regions c.args.asked.types) c.as_slice-terms.ensures.value) c.in_ok-names.ensures in
+    let block = c.args.checked.block in
+    let wrong = with_others g.told c.args.checked.errors in
+    let few = unlowered block.place (trees_of block.terms.items) (plans_of block.terms.items) in
+    let found = found_of c.in_ok-names.field-0 wrong block.place c.as_slice-terms.result.now block.terms.items c.as_slice-terms.ensures.value c.in_ok-names.ensures in
     let right = (rw c.in-Right.is at found) in
-    c.requires.1.1.1.1 right.1
+    c.requires.1.1.1.1.1 (none_else g.told c.args.checked.errors few right.1)
 
 pub table_of-requires-clause-near : goal.table_of-requires-clause-near
 table_of-requires-clause-near g c =
-    let block = c.args.block in
-    let found = found_of c.in_ok-names.field-0 g.told c.in_ok-others.others (others_of (width_of block.revision) (plans_of block.terms.items) c.args.asked.regions c.args.asked.types) block.place c.as_slice-terms.result.now block.terms.items c.as_slice-terms.ensures.value
-    (c.in_ok-others.ensures ∙ ap (λ w. others_of w (plans_of c.as_slice-terms.result.now) c.args.asked.regions c.args.asked.types) c.of_revision-width.ensures ∙ ap (λ ns. others_of (width_of block.revision) (plans_of ns) c.args.asked.regions c.args.asked.types) c.as_slice-terms.ensures.value) c.in_ok-names.ensures in
+    let block = c.args.checked.block in
+    let wrong = with_others g.told c.args.checked.errors in
+    let few = unlowered block.place (trees_of block.terms.items) (plans_of block.terms.items) in
+    let found = found_of c.in_ok-names.field-0 wrong block.place c.as_slice-terms.result.now block.terms.items c.as_slice-terms.ensures.value c.in_ok-names.ensures in
     let right = (rw c.in-Right.is at found) in
-    c.requires.1.1.1.0 right.1
+    c.requires.1.1.1.1.0 (none_else g.told c.args.checked.errors few right.1)
 
 pub table_of-requires-clause-numbers : goal.table_of-requires-clause-numbers
 table_of-requires-clause-numbers g c =
-    let block = c.args.block in
-    let found = found_of c.in_ok-names.field-0 g.told c.in_ok-others.others (others_of (width_of block.revision) (plans_of block.terms.items) c.args.asked.regions c.args.asked.types) block.place c.as_slice-terms.result.now block.terms.items c.as_slice-terms.ensures.value
-    (c.in_ok-others.ensures ∙ ap (λ w. others_of w (plans_of c.as_slice-terms.result.now) c.args.asked.regions c.args.asked.types) c.of_revision-width.ensures ∙ ap (λ ns. others_of (width_of block.revision) (plans_of ns) c.args.asked.regions c.args.asked.types) c.as_slice-terms.ensures.value) c.in_ok-names.ensures in
+    let block = c.args.checked.block in
+    let wrong = with_others g.told c.args.checked.errors in
+    let found = found_of c.in_ok-names.field-0 wrong block.place c.as_slice-terms.result.now block.terms.items c.as_slice-terms.ensures.value c.in_ok-names.ensures in
     let right = (rw c.in-Right.is at found) in
-    right_numbers (with_others g.told (others_of (width_of block.revision) (plans_of block.terms.items) c.args.asked.regions c.args.asked.types)) block.place (trees_of block.terms.items) (plans_of block.terms.items) right.2
+    right_numbers wrong block.place (trees_of block.terms.items) (plans_of block.terms.items) right.1
 
 pub table_of-requires-clause-names : goal.table_of-requires-clause-names
 table_of-requires-clause-names g c =
-    let block = c.args.block in
-    let found = found_of c.in_ok-names.field-0 g.told c.in_ok-others.others (others_of (width_of block.revision) (plans_of block.terms.items) c.args.asked.regions c.args.asked.types) block.place c.as_slice-terms.result.now block.terms.items c.as_slice-terms.ensures.value
-    (c.in_ok-others.ensures ∙ ap (λ w. others_of w (plans_of c.as_slice-terms.result.now) c.args.asked.regions c.args.asked.types) c.of_revision-width.ensures ∙ ap (λ ns. others_of (width_of block.revision) (plans_of ns) c.args.asked.regions c.args.asked.types) c.as_slice-terms.ensures.value) c.in_ok-names.ensures in
+    let block = c.args.checked.block in
+    let wrong = with_others g.told c.args.checked.errors in
+    let found = found_of c.in_ok-names.field-0 wrong block.place c.as_slice-terms.result.now block.terms.items c.as_slice-terms.ensures.value c.in_ok-names.ensures in
     let right = (rw c.in-Right.is at found) in
     right.0
 
 pub returns-in_ok-outcome-in-Right-clause-outcome : goal.returns-in_ok-outcome-in-Right-clause-outcome
 returns-in_ok-outcome-in-Right-clause-outcome g c =
-    let block = c.args.block in
+    let block = c.args.checked.block in
     let terms = trees_of block.terms.items in
-    let others = others_of (width_of block.revision) (plans_of block.terms.items) c.args.asked.regions c.args.asked.types in
+    let wrong = with_others g.told c.args.checked.errors in
     let few = unlowered block.place terms (plans_of block.terms.items) in
     let table = of_right c.args.style c.args.lines.now block.place (core_places (plans_of block.terms.items)) block.file (fields_of block) terms in
-    let found = found_of c.in_ok-names.field-0 g.told c.in_ok-others.others (others_of (width_of block.revision) (plans_of block.terms.items) c.args.asked.regions c.args.asked.types) block.place c.as_slice-terms.result.now block.terms.items c.as_slice-terms.ensures.value
-    (c.in_ok-others.ensures ∙ ap (λ w. others_of w (plans_of c.as_slice-terms.result.now) c.args.asked.regions c.args.asked.types) c.of_revision-width.ensures ∙ ap (λ ns. others_of (width_of block.revision) (plans_of ns) c.args.asked.regions c.args.asked.types) c.as_slice-terms.ensures.value) c.in_ok-names.ensures in
+    let found = found_of c.in_ok-names.field-0 wrong block.place c.as_slice-terms.result.now block.terms.items c.as_slice-terms.ensures.value c.in_ok-names.ensures in
     let right = (rw c.in-Right.is at found) in
-    right_all (Ok c.in_ok-outcome-in-Right.outcome) (with_others g.told others) few table right.2 c.in_ok-outcome-in-Right.ensures
+    right_all (Ok c.in_ok-outcome-in-Right.outcome) wrong few table right.1 c.in_ok-outcome-in-Right.ensures
 
 pub returns-in-Wrong-clause-outcome : goal.returns-in-Wrong-clause-outcome
 returns-in-Wrong-clause-outcome g c =
-    let block = c.args.block in
+    let block = c.args.checked.block in
     let terms = trees_of block.terms.items in
-    let others = others_of (width_of block.revision) (plans_of block.terms.items) c.args.asked.regions c.args.asked.types in
+    let wrong = with_others g.told c.args.checked.errors in
     let few = unlowered block.place terms (plans_of block.terms.items) in
     let table = of_right c.args.style c.args.lines.now block.place (core_places (plans_of block.terms.items)) block.file (fields_of block) terms in
-    let found = found_of c.in_ok-names.field-0 g.told c.in_ok-others.others (others_of (width_of block.revision) (plans_of block.terms.items) c.args.asked.regions c.args.asked.types) block.place c.as_slice-terms.result.now block.terms.items c.as_slice-terms.ensures.value
-    (c.in_ok-others.ensures ∙ ap (λ w. others_of w (plans_of c.as_slice-terms.result.now) c.args.asked.regions c.args.asked.types) c.of_revision-width.ensures ∙ ap (λ ns. others_of (width_of block.revision) (plans_of ns) c.args.asked.regions c.args.asked.types) c.as_slice-terms.ensures.value) c.in_ok-names.ensures in
-    let wrong = (rw c.in-Wrong.is at found) in
-    wrong_all c.in-Wrong.errors (with_others g.told others) few table wrong.0 wrong.1
+    let found = found_of c.in_ok-names.field-0 wrong block.place c.as_slice-terms.result.now block.terms.items c.as_slice-terms.ensures.value c.in_ok-names.ensures in
+    let told = (rw c.in-Wrong.is at found) in
+    wrong_all c.in-Wrong.errors wrong few table told.0 told.1

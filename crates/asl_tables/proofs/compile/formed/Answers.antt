@@ -1,10 +1,15 @@
-use Rattle.std.proofs.Common.{sym, ap, ◌∙◌}
+use Rattle.std.proofs.Common.{◌≡◌, Bool, true, false, refl, sym, ◌∙◌}
+use Rattle.std.specs.Prelude.{not}
 use Rattle.asl_shape.specs.Plans.{plans_of}
-use Rattle.asl_formats.specs.Present.{have_form}
 use Rattle.asl_formats.proofs.Formless.{same_plans, same_trees}
+use Rattle.form_counts.proofs.Absent.{none_held}
 use Rattle.asl_tables.proofs.compile.formed.Goals as goal
 
-pub returns-then-not-has_form : goal.returns-then-not-has_form
-returns-then-not-has_form c =
-    let none = ap (λ ns. have_form (plans_of ns)) (sym c.deref.ensures.value) ∙ sym c.has_form.ensures ∙ c.if-not-has_form.true in
+none_there : (there : Bool) → not there ≡ true → there ≡ false
+none_there true e = absurd cc
+none_there false e = refl
+
+pub returns-then-not-present : goal.returns-then-not-present
+returns-then-not-present c =
+    let none = none_held (plans_of c.args.terms.items) (sym c.requires.present.forms ∙ none_there c.args.present.forms c.if-not-present.true) in
     record { trees = same_trees c.args.terms.items none; plans = same_plans c.args.terms.items none }

@@ -6,7 +6,7 @@ use Rattle.asl_tree.specs.View.{trees_of}
 use Rattle.asl_tree.specs.declared.term.Node.{Node}
 use Rattle.asl_fold.specs.Folds.{folded_where}
 use Rattle.asl_lower.specs.Nodes.{named_all}
-use Rattle.asl_formats.specs.Forms.{formed_all}
+use Rattle.asl_prints.specs.Forms.{formed_all}
 use Rattle.hidden_locals.specs.Switches.{without_switches}
 use Rattle.asl_shape.specs.Plans.{plans_of}
 use Rattle.named_sessions.specs.Shaped.{AreShaped}

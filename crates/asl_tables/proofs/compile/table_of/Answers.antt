@@ -5,7 +5,7 @@ use Rattle.asl_meaning.specs.Declarations.{Declarations, is_named, written_exter
 use Rattle.acpi_values.specs.Paths.{AbsolutePath}
 use Rattle.acpi_names.specs.Spelled.{spelled_all}
 use Rattle.asl_lower.specs.Nodes.{named_all}
-use Rattle.asl_formats.specs.Forms.{formed_all}
+use Rattle.asl_prints.specs.Forms.{formed_all}
 use Rattle.form_shapes.proofs.Formed.{forms_formed}
 use Rattle.form_shapes.proofs.Names.{no_name_errors as no_form_names, no_type_errors as no_form_types}
 use Rattle.hidden_locals.specs.Switches.{without_switches}
@@ -13,7 +13,7 @@ use Rattle.loop_shapes.proofs.Names.{same_name_errors, same_type_errors}
 use Rattle.loop_shapes.proofs.Formed.{loops_formed}
 use Rattle.asl_lower.proofs.Errors.{no_name_errors, no_type_errors}
 use Rattle.aml_code.specs.Header.{fields_of}
-use Rattle.asl_tables.specs.Ready.{HasRoom}
+use Rattle.asl_tables.specs.Ready.{FitsHeader}
 use Rattle.asl_tree.specs.Tree.{Trees}
 use Rattle.asl_tree.specs.View.{trees_of}
 use Rattle.acpi_names.specs.Errors.{whole_of, name_errors, type_errors}
@@ -59,7 +59,13 @@ returns c =
     (λ ts. (d : Declarations) (counts : List (AbsolutePath × ℕ)) → Agrees index.paths index.named.items d → Tabled index.paths c.as_slice.result.now (lookup counts) → trees_of c.in_ok-spelled.spelled.items ≡ spelled_all c.args.style.shorten (is_named d) (written_external counts) ts [])
     (ap (λ (ts : Vec Node Global). trees_of ts.items) c.replace-terms.ensures.value ∙ lowered.ensures.terms) c.in_ok-spelled.ensures.trees)
     names.names (subst (λ table. Tabled index.paths table (lookup (whole_of terms).calls)) (sym c.as_slice.ensures.value) names.calls) in
-    let room : HasRoom (fields_of lowered.core) = subst HasRoom (sym lowered.ensures.fields) c.requires.room in
+    let room : FitsHeader (fields_of lowered.core) = subst FitsHeader (sym lowered.ensures.fields) c.requires.room in
     like_another c.args.style c.args.lines.now c.write_core.result lowered.core.place block.place (places_of c.in_ok-spelled.spelled.items) (placed_where c.args.style.wrap low (core_places (plans_of block.terms.items))) lowered.core.file block.file (fields_of lowered.core) (fields_of block) made
     lowered.ensures.place (c.in_ok-spelled.ensures.places ∙ ap (λ (ts : Vec Node Global). places_of ts.items) c.replace-terms.ensures.value ∙ lowered.ensures.places shaped) lowered.ensures.file lowered.ensures.fields
-    (c.write_core.ensures made (record { room = room; shaped = wrapped.where_shaped c.args.style.wrap low shaped; names = wrapped.where_name_errors c.args.style.wrap low ∙ where_name_errors c.args.style.fold width (named_all program) ∙ no_name_errors program loops named; counts = wrapped.where_type_errors c.args.style.wrap low ∙ where_type_errors c.args.style.fold width (named_all program) ∙ no_type_errors program loops called; core = core }))
+    (c.write_core.ensures made (record {
+      room = room;
+      shaped = wrapped.where_shaped c.args.style.wrap low shaped;
+      names = wrapped.where_name_errors c.args.style.wrap low ∙ where_name_errors c.args.style.fold width (named_all program) ∙ no_name_errors program loops named;
+      counts = wrapped.where_type_errors c.args.style.wrap low ∙ where_type_errors c.args.style.fold width (named_all program) ∙ no_type_errors program loops called;
+      core = core;
+    }))

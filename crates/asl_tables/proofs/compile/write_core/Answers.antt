@@ -1,5 +1,5 @@
 use Rattle.std.proofs.Common.{subst, ◌∙◌}
-use Rattle.aml_writer.specs.Written.{RefusedFor, IsTooLong}
+use Rattle.aml_sizes.specs.TableSizes.{RefusedFor, IsTooLong}
 use Rattle.asl_tables.proofs.Written.{table_written, refused_written}
 use Rattle.asl_tables.proofs.compile.write_core.Goals as goal
 

@@ -1,4 +1,4 @@
-use Rattle.descriptor_names.specs.Resolved.{mentions_of, names_of, table_of, checked_terms}
+use Rattle.descriptor_checks.specs.Resolved.{mentions_of, names_of, table_of, checked_terms}
 use Rattle.descriptor_shapes.proofs.Each.{each_all}
 use Rattle.descriptor_shapes.proofs.Untold.{IsOfNone, untold_names, untold_kinds, untold_uses, untold_below}
 use Rattle.descriptor_shapes.proofs.laws.untold_are_right.Goals as goal

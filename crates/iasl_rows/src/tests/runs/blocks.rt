@@ -17,7 +17,8 @@ DefinitionBlock (\"b.aml\", \"SSDT\", 2, \"OEMX00\", \"TABLE001\", 1)
 ";
 
 const SECOND_TABLE: &[u8] =
-    b"\x53\x53\x44\x54\x37\x00\x00\x00\x02\x4B\x4F\x45\x4D\x58\x30\x30\x54\x41\x42\x4C\x45\x30\x30\x31\x01\x00\x00\x00\x49\x4E\x54\x4C\x05\x01\x21\x20\x15\x58\x5F\x5F\x5F\x01\x00\x14\x0B\x4D\x5F\x5F\x5F\x00\xA4\x58\x5F\x5F\x5F";
+    b"\x53\x53\x44\x54\x37\x00\x00\x00\x02\x4B\x4F\x45\x4D\x58\x30\x30\x54\x41\x42\x4C\x45\x30\x30\x31\x01\x00\x00\x00\x49\x4E\x54\x4C\x05\
+        \x01\x21\x20\x15\x58\x5F\x5F\x5F\x01\x00\x14\x0B\x4D\x5F\x5F\x5F\x00\xA4\x58\x5F\x5F\x5F";
 
 // Without the External.
 const NOT_REACHED: &[u8] = b"DefinitionBlock (\"a.aml\", \"SSDT\", 2, \"OEMX00\", \"TABLE001\", 1)
@@ -105,10 +106,12 @@ DefinitionBlock (\"b.aml\", \"SSDT\", 2, \"OEMX00\", \"TABLE001\", 1)
 ";
 
 const INTEGER_TABLE: &[u8] =
-    b"\x53\x53\x44\x54\x37\x00\x00\x00\x02\x71\x4F\x45\x4D\x58\x30\x30\x54\x41\x42\x4C\x45\x30\x30\x31\x01\x00\x00\x00\x49\x4E\x54\x4C\x05\x01\x21\x20\x15\x45\x5F\x5F\x5F\x01\x00\x14\x0B\x4D\x5F\x5F\x5F\x00\xA4\x45\x5F\x5F\x5F";
+    b"\x53\x53\x44\x54\x37\x00\x00\x00\x02\x71\x4F\x45\x4D\x58\x30\x30\x54\x41\x42\x4C\x45\x30\x30\x31\x01\x00\x00\x00\x49\x4E\x54\x4C\x05\
+        \x01\x21\x20\x15\x45\x5F\x5F\x5F\x01\x00\x14\x0B\x4D\x5F\x5F\x5F\x00\xA4\x45\x5F\x5F\x5F";
 
 const TEXT_TABLE: &[u8] =
-    b"\x53\x53\x44\x54\x37\x00\x00\x00\x02\x70\x4F\x45\x4D\x58\x30\x30\x54\x41\x42\x4C\x45\x30\x30\x31\x01\x00\x00\x00\x49\x4E\x54\x4C\x05\x01\x21\x20\x15\x45\x5F\x5F\x5F\x02\x00\x14\x0B\x4D\x5F\x5F\x5F\x00\xA4\x45\x5F\x5F\x5F";
+    b"\x53\x53\x44\x54\x37\x00\x00\x00\x02\x70\x4F\x45\x4D\x58\x30\x30\x54\x41\x42\x4C\x45\x30\x30\x31\x01\x00\x00\x00\x49\x4E\x54\x4C\x05\
+        \x01\x21\x20\x15\x45\x5F\x5F\x5F\x02\x00\x14\x0B\x4D\x5F\x5F\x5F\x00\xA4\x45\x5F\x5F\x5F";
 
 static CASES_1: [Case; 3] = [
     Case {
@@ -152,7 +155,8 @@ static CASES_2: [Case; 4] = [
         status: 1,
         names: &[],
         bodies: &[],
-        told: b"t.asl:6:1: error 6028: no definition block\nt.asl:9:5: error 6021: wrong number of arguments\n2 errors, 0 warnings, 0 remarks\n",
+        told: b"t.asl:6:1: error 6028: no definition block\nt.asl:9:5: error 6021: wrong number of arguments\n\
+            2 errors, 0 warnings, 0 remarks\n",
     },
     Case {
         words: &["t.asl"],
@@ -160,7 +164,8 @@ static CASES_2: [Case; 4] = [
         status: 1,
         names: &[],
         bodies: &[],
-        told: b"t.asl:7:14: error 6041: name is not found: Z___\nt.asl:9:11: error 6040: name is declared twice: \\X___\n2 errors, 0 warnings, 0 remarks\n",
+        told: b"t.asl:7:14: error 6041: name is not found: Z___\nt.asl:9:11: error 6040: name is declared twice: \\X___\n\
+            2 errors, 0 warnings, 0 remarks\n",
     },
     Case {
         words: &["t.asl"],
@@ -168,7 +173,8 @@ static CASES_2: [Case; 4] = [
         status: 1,
         names: &[],
         bodies: &[],
-        told: b"t.asl:3:21: error 6051: wrong number of call arguments: M___\nt.asl:7:14: warning 3002: constant is cut to 32 bits\nt.asl:8:18: error 6052: no loop to leave\n2 errors, 1 warnings, 0 remarks\n",
+        told: b"t.asl:3:21: error 6051: wrong number of call arguments: M___\nt.asl:7:14: warning 3002: constant is cut to 32 bits\n\
+            t.asl:8:18: error 6052: no loop to leave\n2 errors, 1 warnings, 0 remarks\n",
     },
 ];
 

@@ -35,7 +35,8 @@ static CASES_1: [Case; 5] = [
         status: 1,
         names: &[],
         bodies: &[],
-        told: b"t.asl(4) : error 6040 : name is declared twice\nt.asl(5) : error 6041 : name is not found\n2 errors, 0 warnings, 0 remarks\n",
+        told: b"t.asl(4) : error 6040 : name is declared twice\nt.asl(5) : error 6041 : name is not found\n\
+            2 errors, 0 warnings, 0 remarks\n",
     },
     Case {
         words: &["t.asl", "-vi"],
@@ -43,7 +44,8 @@ static CASES_1: [Case; 5] = [
         status: 0,
         names: &[b"t.aml"],
         bodies: &[NOTHING_TABLE],
-        told: b"t.asl(1) : remark 2001 : message\nt.asl(2) : warning 3004 : warning directive\nt.aml: SSDT, 36 bytes\n0 errors, 1 warnings, 1 remarks\n",
+        told: b"t.asl(1) : remark 2001 : message\nt.asl(2) : warning 3004 : warning directive\nt.aml: SSDT, 36 bytes\n\
+            0 errors, 1 warnings, 1 remarks\n",
     },
     Case {
         words: &["-vi", "t.asl"],
@@ -60,7 +62,8 @@ static CASES_1: [Case; 5] = [
         status: 1,
         names: &[],
         bodies: &[],
-        told: b"t.asl:1:1: remark 2001: message: hi\nt.asl:2:1: warning 3004: warning directive: careful\n0 errors, 1 warnings, 1 remarks\n",
+        told: b"t.asl:1:1: remark 2001: message: hi\nt.asl:2:1: warning 3004: warning directive: careful\n\
+            0 errors, 1 warnings, 1 remarks\n",
     },
     Case {
         words: &["-vi", "-we", "t.asl"],
@@ -89,7 +92,8 @@ static CASES_2: [Case; 5] = [
         status: 1,
         names: &[],
         bodies: &[],
-        told: b"t.asl:1:1: error 6010: bad character\nt.asl:2:1: warning 3004: warning directive: careful\n1 errors, 1 warnings, 0 remarks\n",
+        told: b"t.asl:1:1: error 6010: bad character\nt.asl:2:1: warning 3004: warning directive: careful\n\
+            1 errors, 1 warnings, 0 remarks\n",
     },
     Case {
         words: &["-we", "t.aml"],
@@ -97,7 +101,8 @@ static CASES_2: [Case; 5] = [
         status: 1,
         names: &[],
         bodies: &[],
-        told: b"t.aml:1:1: remark 2001: message: hi\nt.aml:2:1: warning 3004: warning directive: careful\n0 errors, 1 warnings, 1 remarks\n",
+        told: b"t.aml:1:1: remark 2001: message: hi\nt.aml:2:1: warning 3004: warning directive: careful\n\
+            0 errors, 1 warnings, 1 remarks\n",
     },
     // The preprocessed text alone.
     Case {

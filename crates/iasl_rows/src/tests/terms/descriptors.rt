@@ -17,18 +17,25 @@ static MADE: [Row; 6] = [
     ),
     // A field by the number of its byte.
     made!(
-        "Name (BUF0, ResourceTemplate () { QWordMemory (ResourceProducer, PosDecode, MinFixed, MaxFixed, Cacheable, ReadWrite, 0, 0x100000000, 0x1FFFFFFFF, 0, 0x100000000, , , RNG0, AddressRangeMemory, TypeStatic) }) CreateQWordField (BUF0, RNG0._MIN, MINV)",
-        b"\x08BUF0\x11\x33\x0A\x30\x8A\x2B\x00\x00\x0C\x03\0\0\0\0\0\0\0\0\x00\x00\x00\x00\x01\x00\x00\x00\xFF\xFF\xFF\xFF\x01\x00\x00\x00\0\0\0\0\0\0\0\0\x00\x00\x00\x00\x01\x00\x00\x00\x79\x00\x8F\x42\x55\x46\x30\x0A\x0E\x4D\x49\x4E\x56"
+        "Name (BUF0, ResourceTemplate () { QWordMemory (ResourceProducer, PosDecode, MinFixed, MaxFixed, Cacheable, ReadWrite, 0, \
+            0x100000000, 0x1FFFFFFFF, 0, 0x100000000, , , RNG0, AddressRangeMemory, TypeStatic) }) \
+            CreateQWordField (BUF0, RNG0._MIN, MINV)",
+        b"\x08BUF0\x11\x33\x0A\x30\x8A\x2B\x00\x00\x0C\x03\0\0\0\0\0\0\0\0\x00\x00\x00\x00\x01\x00\x00\x00\xFF\xFF\xFF\xFF\x01\x00\x00\x00\
+            \0\0\0\0\0\0\0\0\x00\x00\x00\x00\x01\x00\x00\x00\x79\x00\x8F\x42\x55\x46\x30\x0A\x0E\x4D\x49\x4E\x56"
     ),
     // And of its bit, where buffer fields are counted in bits.
     made!(
-        "Name (B, ResourceTemplate () { IRQNoFlags () {1} IRQ (Edge, ActiveHigh, Exclusive, D) {3} }) CreateBitField (B, D._HE, H) CreateField (B, D._LL + 1, D._INT, F) CreateByteField (B, D._INT, G)",
-        b"\x08B___\x11\x0C\x0A\x09\x22\x02\x00\x23\x08\x00\x01\x79\x00\x8DB___\x0A\x30H___\x5B\x13B___\x0A\x34\x0A\x20F___\x8CB___\x0A\x04G___"
+        "Name (B, ResourceTemplate () { IRQNoFlags () {1} IRQ (Edge, ActiveHigh, Exclusive, D) {3} }) CreateBitField (B, D._HE, H) \
+            CreateField (B, D._LL + 1, D._INT, F) CreateByteField (B, D._INT, G)",
+        b"\x08B___\x11\x0C\x0A\x09\x22\x02\x00\x23\x08\x00\x01\x79\x00\x8DB___\x0A\x30H___\x5B\x13B___\x0A\x34\x0A\x20F___\x8CB___\
+            \x0A\x04G___"
     ),
     // In a method, from the root and from the scope around, and as a member of a Package.
     made!(
-        "Name (B, ResourceTemplate () { FixedIO (1, 2, D) }) Name (P, Package () { D._LEN }) Device (V) { Name (N, ^D._BAS) Method (M) { Return (\\D._LEN) } }",
-        b"\x08B___\x11\x09\x0A\x06\x4B\x01\x00\x02\x79\x00\x08P___\x12\x04\x01\x0A\x03\x5B\x82\x15V___\x08N___\x01\x14\x09M___\x00\xA4\x0A\x03"
+        "Name (B, ResourceTemplate () { FixedIO (1, 2, D) }) Name (P, Package () { D._LEN }) Device (V) { Name (N, ^D._BAS) Method (M) { \
+            Return (\\D._LEN) } }",
+        b"\x08B___\x11\x09\x0A\x06\x4B\x01\x00\x02\x79\x00\x08P___\x12\x04\x01\x0A\x03\x5B\x82\x15V___\x08N___\x01\x14\x09M___\x00\xA4\
+            \x0A\x03"
     ),
     // A name of the same segment that is nearer is another.
     made!(
@@ -149,7 +156,8 @@ static TOLD_2: [Row; 13] = [
     told!(
         BEFORE,
         "Name (P, Package () { ^^D._LEN, ^D })",
-        b"t.asl:4:23: error 6043: path leaves the root: ^^D___._LEN\nt.asl:4:33: error 6043: path leaves the root: ^D___\n2 errors, 0 warnings, 0 remarks\n"
+        b"t.asl:4:23: error 6043: path leaves the root: ^^D___._LEN\nt.asl:4:33: error 6043: path leaves the root: ^D___\n\
+            2 errors, 0 warnings, 0 remarks\n"
     ),
     told!(
         BEFORE,
@@ -174,7 +182,8 @@ static TOLD_2: [Row; 13] = [
     told!(
         BEFORE,
         "Name (N, ^D._BAS) Name (D, 1)",
-        b"t.asl:4:10: error 6043: path leaves the root: ^D___._BAS\nt.asl:4:25: error 6040: name is declared twice: \\D___\n2 errors, 0 warnings, 0 remarks\n"
+        b"t.asl:4:10: error 6043: path leaves the root: ^D___._BAS\nt.asl:4:25: error 6040: name is declared twice: \\D___\n\
+            2 errors, 0 warnings, 0 remarks\n"
     ),
 ];
 
@@ -188,7 +197,8 @@ static TOLD_3: [Row; 14] = [
     told!(
         BEFORE,
         "Scope (D) { Name (X, 1) }",
-        b"t.asl:4:1: error 6042: scope is not a container: D___\nt.asl:4:19: error 6041: name is not found: X___\n2 errors, 0 warnings, 0 remarks\n"
+        b"t.asl:4:1: error 6042: scope is not a container: D___\nt.asl:4:19: error 6041: name is not found: X___\n\
+            2 errors, 0 warnings, 0 remarks\n"
     ),
     // A field is told with its descriptor, as it is written.
     told!(
@@ -199,7 +209,8 @@ static TOLD_3: [Row; 14] = [
     told!(
         BEFORE,
         "Scope (^D._LEN) { }",
-        b"t.asl:4:1: error 6042: scope is not a container: ^D___._LEN\nt.asl:4:8: error 6043: path leaves the root: ^D___._LEN\n2 errors, 0 warnings, 0 remarks\n"
+        b"t.asl:4:1: error 6042: scope is not a container: ^D___._LEN\nt.asl:4:8: error 6043: path leaves the root: ^D___._LEN\n\
+            2 errors, 0 warnings, 0 remarks\n"
     ),
     // A descriptor has no value: it is no expression, no term and no member of a Package.
     told!(
@@ -275,7 +286,8 @@ static TOLD_4: [Row; 11] = [
     told!(
         BEFORE,
         "Method (M) { Acquire (D, 1) Acquire (\\D._LEN, 1) }",
-        b"t.asl:4:23: error 6054: wrong kind of object: D___\nt.asl:4:38: error 6054: wrong kind of object: \\D___._LEN\n2 errors, 0 warnings, 0 remarks\n"
+        b"t.asl:4:23: error 6054: wrong kind of object: D___\nt.asl:4:38: error 6054: wrong kind of object: \\D___._LEN\n\
+            2 errors, 0 warnings, 0 remarks\n"
     ),
     told!(
         BEFORE,
@@ -320,15 +332,18 @@ static TOLD_5: [Row; 13] = [
     // A Scope of what is declared behind it, and what stands in it.
     told!(
         "Name (C, ResourceTemplate () { IO (Decode16, 0x10, 0x20, 1, 4, T) }) Device (A) { Scope (R) { Device (B) { } } } Device (R) { }",
-        b"t.asl:3:94: error 6041: name is not found: R___\nt.asl:3:107: error 6041: name is not found: B___\n2 errors, 0 warnings, 0 remarks\n"
+        b"t.asl:3:94: error 6041: name is not found: R___\nt.asl:3:107: error 6041: name is not found: B___\n\
+            2 errors, 0 warnings, 0 remarks\n"
     ),
     // A descriptor stands before an outer object of its name: a device, and a region.
     told!(
-        "Device (RNG0) { } Method (M) { Name (C, ResourceTemplate () { IO (Decode16, 0x10, 0x20, 1, 4, RNG0) }) Local0 = Add (RNG0, 1) Return (C) }",
+        "Device (RNG0) { } Method (M) { Name (C, ResourceTemplate () { IO (Decode16, 0x10, 0x20, 1, 4, RNG0) }) Local0 = Add (RNG0, 1) \
+            Return (C) }",
         b"t.asl:3:122: error 6050: wrong type\n1 errors, 0 warnings, 0 remarks\n"
     ),
     told!(
-        "OperationRegion (RNG0, SystemMemory, 0, 1) Device (E) { Name (C, ResourceTemplate () { IO (Decode16, 0x10, 0x20, 1, 4, RNG0) }) Field (RNG0, DWordAcc, NoLock, Preserve) { F, 32 } }",
+        "OperationRegion (RNG0, SystemMemory, 0, 1) Device (E) { Name (C, ResourceTemplate () { IO (Decode16, 0x10, 0x20, 1, 4, RNG0) }) \
+            Field (RNG0, DWordAcc, NoLock, Preserve) { F, 32 } }",
         b"t.asl:3:140: error 6054: wrong kind of object: RNG0\n1 errors, 0 warnings, 0 remarks\n"
     ),
     told!(
@@ -336,11 +351,13 @@ static TOLD_5: [Row; 13] = [
         b"t.asl:3:115: error 6054: wrong kind of object: RNG0\n1 errors, 0 warnings, 0 remarks\n"
     ),
     told!(
-        "Device (RNG0) { } Device (E) { Name (C, ResourceTemplate () { IO (Decode16, 0x10, 0x20, 1, 4, RNG0) }) Method (M) { Acquire (RNG0, 0) } }",
+        "Device (RNG0) { } Device (E) { Name (C, ResourceTemplate () { IO (Decode16, 0x10, 0x20, 1, 4, RNG0) }) Method (M) { \
+            Acquire (RNG0, 0) } }",
         b"t.asl:3:130: error 6054: wrong kind of object: RNG0\n1 errors, 0 warnings, 0 remarks\n"
     ),
     told!(
-        "Device (RNG0) { } Device (E) { Name (C, ResourceTemplate () { IO (Decode16, 0x10, 0x20, 1, 4, RNG0) }) Method (M) { Return (CondRefOf (RNG0)) } }",
+        "Device (RNG0) { } Device (E) { Name (C, ResourceTemplate () { IO (Decode16, 0x10, 0x20, 1, 4, RNG0) }) Method (M) { \
+            Return (CondRefOf (RNG0)) } }",
         b"t.asl:3:140: error 6050: wrong type\n1 errors, 0 warnings, 0 remarks\n"
     ),
     told!(
@@ -348,11 +365,13 @@ static TOLD_5: [Row; 13] = [
         b"t.asl:3:121: error 6051: wrong number of call arguments: RNG0\n1 errors, 0 warnings, 0 remarks\n"
     ),
     told!(
-        "Device (RNG0) { } Device (E) { Name (C, ResourceTemplate () { IO (Decode16, 0x10, 0x20, 1, 4, RNG0) }) Name (N, Package () { RNG0 }) }",
+        "Device (RNG0) { } Device (E) { Name (C, ResourceTemplate () { IO (Decode16, 0x10, 0x20, 1, 4, RNG0) }) Name (N, Package () { \
+            RNG0 }) }",
         b"t.asl:3:130: error 6050: wrong type\n1 errors, 0 warnings, 0 remarks\n"
     ),
     told!(
-        "Device (RNG0) { } Device (E) { Name (C, ResourceTemplate () { IO (Decode16, 0x10, 0x20, 1, 4, RNG0) }) Method (M) { Local0 = RNG0 } }",
+        "Device (RNG0) { } Device (E) { Name (C, ResourceTemplate () { IO (Decode16, 0x10, 0x20, 1, 4, RNG0) }) Method (M) { \
+            Local0 = RNG0 } }",
         b"t.asl:3:130: error 6050: wrong type\n1 errors, 0 warnings, 0 remarks\n"
     ),
     told!(

@@ -4,7 +4,9 @@ use std::alloc::AllocError;
 
 // Objects of each kind, on a line of their own.
 const OBJECTS: &str =
-    "NAME ( ANY0 , 1 ) DEVICE ( DEV0 ) { } MUTEX ( MUT0 ) ALIAS ( MUT0 , ALI0 ) METHOD ( MTH0 ) { } THERMALZONE ( THZ0 ) { } EXTERNAL ( XINT , INTOBJ ) EXTERNAL ( XPKG , PKGOBJ ) EXTERNAL ( XANY ) OPERATIONREGION ( REG0 , SYSTEMIO , 0 , 8 ) FIELD ( REG0 , BYTEACC , NOLOCK , PRESERVE ) { FLD0 , 8 }\n";
+    "NAME ( ANY0 , 1 ) DEVICE ( DEV0 ) { } MUTEX ( MUT0 ) ALIAS ( MUT0 , ALI0 ) METHOD ( MTH0 ) { } THERMALZONE ( THZ0 ) { } \
+        EXTERNAL ( XINT , INTOBJ ) EXTERNAL ( XPKG , PKGOBJ ) EXTERNAL ( XANY ) OPERATIONREGION ( REG0 , SYSTEMIO , 0 , 8 ) \
+        FIELD ( REG0 , BYTEACC , NOLOCK , PRESERVE ) { FLD0 , 8 }\n";
 
 // Terms on a further line, and the messages on them, if there are any.
 static ROWS_1: [Row; 11] = [
@@ -110,7 +112,8 @@ static ROWS_3: [Row; 11] = [
     told!(
         OBJECTS,
         "METHOD ( M ) { ADD ( ALI0 , XPKG ) ADD ( DEBUG , 1 ) }",
-        b"t.asl:4:22: error 6050: wrong type\nt.asl:4:29: error 6050: wrong type\nt.asl:4:42: error 6050: wrong type\n3 errors, 0 warnings, 0 remarks\n"
+        b"t.asl:4:22: error 6050: wrong type\nt.asl:4:29: error 6050: wrong type\nt.asl:4:42: error 6050: wrong type\n\
+            3 errors, 0 warnings, 0 remarks\n"
     ),
     told!(
         OBJECTS,
@@ -143,7 +146,8 @@ static ROWS_3: [Row; 11] = [
     told!(
         OBJECTS,
         "METHOD ( M ) { FOR ( , DEV0 , ) { } PRINTF ( \"%o\" , MUT0 ) FPRINTF ( ANY0 , \"%o\" , PACKAGE ( ) { } ) }",
-        b"t.asl:4:24: error 6050: wrong type\nt.asl:4:53: error 6050: wrong type\nt.asl:4:84: error 6050: wrong type\n3 errors, 0 warnings, 0 remarks\n"
+        b"t.asl:4:24: error 6050: wrong type\nt.asl:4:53: error 6050: wrong type\nt.asl:4:84: error 6050: wrong type\n\
+            3 errors, 0 warnings, 0 remarks\n"
     ),
     right!(
         OBJECTS,
@@ -158,7 +162,8 @@ static ROWS_3: [Row; 11] = [
     told!(
         OBJECTS,
         "METHOD ( M ) { MATCH ( ADD ( DEV0 , 1 ) , MEQ , 1 , MTR , PACKAGE ( DEV0 ) { } , 0 ) }",
-        b"t.asl:4:24: error 6050: wrong type\nt.asl:4:30: error 6050: wrong type\nt.asl:4:59: error 6050: wrong type\nt.asl:4:69: error 6050: wrong type\n4 errors, 0 warnings, 0 remarks\n"
+        b"t.asl:4:24: error 6050: wrong type\nt.asl:4:30: error 6050: wrong type\nt.asl:4:59: error 6050: wrong type\n\
+            t.asl:4:69: error 6050: wrong type\n4 errors, 0 warnings, 0 remarks\n"
     ),
 ];
 

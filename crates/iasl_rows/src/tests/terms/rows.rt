@@ -58,7 +58,8 @@ static ROWS: [Row; 15] = [
         b"\x5B\x80R___\x01\x0A\x80\x0A\x04\x5B\x81\x15R___\x02A___\x0CB___\x08C___\x0C"
     ),
     made!(
-        "OperationRegion (P, SystemIO, 0x70, 2) Field (P, ByteAcc, NoLock, Preserve) { IX, 8, DT, 8 } IndexField (IX, DT, ByteAcc, NoLock, Preserve) { , 16, V, 8 }",
+        "OperationRegion (P, SystemIO, 0x70, 2) Field (P, ByteAcc, NoLock, Preserve) { IX, 8, DT, 8 } \
+            IndexField (IX, DT, ByteAcc, NoLock, Preserve) { , 16, V, 8 }",
         b"\x5B\x80P___\x01\x0A\x70\x0A\x02\x5B\x81\x10P___\x01IX__\x08DT__\x08\x5B\x86\x11IX__DT__\x01\x00\x10V___\x08"
     ),
 ];
@@ -78,7 +79,8 @@ static TOLD: [Row; 7] = [
     ),
     told!(
         "Method (M) { Add (Package () { 1 }, 1) Name (B, Buffer (1) { 1, 2 }) }",
-        b"t.asl:3:23: error 6050: wrong type\nt.asl:3:50: warning 3003: name is never used: \\M___.B___\nt.asl:3:53: error 6057: list is longer than its size\n2 errors, 1 warnings, 0 remarks\n"
+        b"t.asl:3:23: error 6050: wrong type\nt.asl:3:50: warning 3003: name is never used: \\M___.B___\n\
+            t.asl:3:53: error 6057: list is longer than its size\n2 errors, 1 warnings, 0 remarks\n"
     ),
     told!(
         "Method (M) { ElseIf (1) { } Else { } }",
@@ -87,7 +89,8 @@ static TOLD: [Row; 7] = [
     // An External is as the first of its path, or not.
     told!(
         "External (X, IntObj) External (X, StrObj) External (X, StrObj)",
-        b"t.asl:3:26: error 6045: external arguments differ: X___\nt.asl:3:47: error 6045: external arguments differ: X___\n2 errors, 0 warnings, 0 remarks\n"
+        b"t.asl:3:26: error 6045: external arguments differ: X___\nt.asl:3:47: error 6045: external arguments differ: X___\n\
+            2 errors, 0 warnings, 0 remarks\n"
     ),
     told!(
         "External (X, IntObj) External (X, StrObj) External (X, IntObj)",
@@ -98,7 +101,8 @@ static TOLD: [Row; 7] = [
 static NOTED: [Row; 2] = [
     noted!(
         "Method (_STA, 1) { Name (X, 5) }",
-        b"t.asl:3:13: warning 3001: reserved name has other arguments: \\_STA\nt.asl:3:30: warning 3003: name is never used: \\_STA.X___\nt.aml: SSDT, 50 bytes\n0 errors, 2 warnings, 0 remarks\n"
+        b"t.asl:3:13: warning 3001: reserved name has other arguments: \\_STA\nt.asl:3:30: warning 3003: name is never used: \\_STA.X___\n\
+            t.aml: SSDT, 50 bytes\n0 errors, 2 warnings, 0 remarks\n"
     ),
     noted!(
         "Method (_STA) { Name (X, 5) Return (X) }",

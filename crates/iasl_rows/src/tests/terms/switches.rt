@@ -14,18 +14,23 @@ static ROWS: [Row; 7] = [
     ),
     // A Continue that leaves the Switch.
     made!(
-        "Method (W, 0) { Local0 = 0 While (Local0 < 2) { Local0++ Switch (Local0) { Case (1) { Continue } } Local1 = Local0 } Return (Local1) }",
-        b"\x14\x30W___\x00\x70\x00\x60\xA2\x24\x95\x60\x0A\x02\x75\x60\x70\x00\x63\xA2\x0F\x01\x70\x60\x62\xA0\x08\x93\x62\x01\x70\x01\x63\xA5\xA5\xA0\x06\x63\x70\x00\x63\x9F\x70\x60\x61\xA4\x61"
+        "Method (W, 0) { Local0 = 0 While (Local0 < 2) { Local0++ Switch (Local0) { Case (1) { Continue } } Local1 = Local0 } \
+            Return (Local1) }",
+        b"\x14\x30W___\x00\x70\x00\x60\xA2\x24\x95\x60\x0A\x02\x75\x60\x70\x00\x63\xA2\x0F\x01\x70\x60\x62\xA0\x08\x93\x62\x01\x70\x01\x63\
+            \xA5\xA5\xA0\x06\x63\x70\x00\x63\x9F\x70\x60\x61\xA4\x61"
     ),
     // A Continue that leaves two Switches: the flag is one Local for both.
     made!(
-        "Method (T, 0) { Local0 = 0 While (Local0 < 2) { Local0++ Switch (Local0) { Case (1) { Switch (Local0) { Default { Continue } } } } Local1 = Local0 } Return (Local1) }",
-        b"\x14\x3BT___\x00\x70\x00\x60\xA2\x2F\x95\x60\x0A\x02\x75\x60\x70\x00\x64\xA2\x1A\x01\x70\x60\x62\xA0\x13\x93\x62\x01\xA2\x0A\x01\x70\x60\x63\x70\x01\x64\xA5\xA5\xA0\x03\x64\xA5\xA5\xA0\x06\x64\x70\x00\x64\x9F\x70\x60\x61\xA4\x61"
+        "Method (T, 0) { Local0 = 0 While (Local0 < 2) { Local0++ Switch (Local0) { Case (1) { Switch (Local0) { Default { \
+            Continue } } } } Local1 = Local0 } Return (Local1) }",
+        b"\x14\x3BT___\x00\x70\x00\x60\xA2\x2F\x95\x60\x0A\x02\x75\x60\x70\x00\x64\xA2\x1A\x01\x70\x60\x62\xA0\x13\x93\x62\x01\xA2\x0A\x01\
+            \x70\x60\x63\x70\x01\x64\xA5\xA5\xA0\x03\x64\xA5\xA5\xA0\x06\x64\x70\x00\x64\x9F\x70\x60\x61\xA4\x61"
     ),
     // Any member of a Package, each further Case in an Else.
     made!(
         "Method (M, 1) { Switch (Arg0) { Case (One) {Return (10)} Case (Package () {2, 3}) {Break} Default {Return (20)} } }",
-        b"\x14\x28M___\x01\xA2\x21\x01\x70\x68\x60\xA0\x07\x93\x60\x01\xA4\x0A\x0A\xA1\x12\xA0\x0B\x91\x93\x60\x0A\x02\x93\x60\x0A\x03\xA5\xA1\x04\xA4\x0A\x14\xA5"
+        b"\x14\x28M___\x01\xA2\x21\x01\x70\x68\x60\xA0\x07\x93\x60\x01\xA4\x0A\x0A\xA1\x12\xA0\x0B\x91\x93\x60\x0A\x02\x93\x60\x0A\x03\xA5\
+            \xA1\x04\xA4\x0A\x14\xA5"
     ),
     // Values are evaluated, whatever the options.
     made!(
@@ -56,11 +61,13 @@ static TOLD: [Row; 5] = [
     ),
     told!(
         "Method (M) { Switch (1) { Case (1) { } Case (Package () {2, One}) { } Case (\"A\") { } Case (\"A\") { } } }",
-        b"t.asl:3:65: error 6053: case value occurs twice\nt.asl:3:96: error 6053: case value occurs twice\n2 errors, 0 warnings, 0 remarks\n"
+        b"t.asl:3:65: error 6053: case value occurs twice\nt.asl:3:96: error 6053: case value occurs twice\n\
+            2 errors, 0 warnings, 0 remarks\n"
     ),
     told!(
         "Method (M) { Switch (1) { Default { } Default { } Noop } Case (1) { } Switch (1) { Case (Local0) { } } }",
-        b"t.asl:3:43: error 6025: not allowed here\nt.asl:3:55: error 6025: not allowed here\nt.asl:3:62: error 6025: not allowed here\nt.asl:3:94: error 6022: wrong form of argument\n4 errors, 0 warnings, 0 remarks\n"
+        b"t.asl:3:43: error 6025: not allowed here\nt.asl:3:55: error 6025: not allowed here\nt.asl:3:62: error 6025: not allowed here\n\
+            t.asl:3:94: error 6022: wrong form of argument\n4 errors, 0 warnings, 0 remarks\n"
     ),
 ];
 

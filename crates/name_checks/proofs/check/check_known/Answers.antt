@@ -1,22 +1,25 @@
-use Rattle.std.proofs.Common.{◌≡◌, length, ap, ◌∙◌, arith}
-use Rattle.acpi_state.specs.Objects.{lookup}
+use Rattle.std.proofs.Common.{◌≡◌, length, ◌∙◌, arith}
 use Rattle.asl_tree.specs.View.{trees_of}
-use Rattle.name_kinds.proofs.Seeing.{block_seen}
-use Rattle.name_checks.proofs.Blocks.{block_told, none_wrong, some_wrong}
+use Rattle.acpi_names.specs.Errors.{name_errors, type_errors}
+use Rattle.name_checks.proofs.Blocks.{none_wrong, some_wrong, first_kinds, refuses_first}
 use Rattle.name_checks.proofs.check.check_known.Goals as goal
-
-pub returns-then-is_empty-clause-calls : goal.returns-then-is_empty-clause-calls
-returns-then-is_empty-clause-calls c path = c.names_in.ensures.calls path ∙ ap (λ w. lookup w.calls path) (block_seen (trees_of c.args.known.terms.now) c.requires.terms)
 
 pub returns-then-is_empty-clause-right : goal.returns-then-is_empty-clause-right
 returns-then-is_empty-clause-right c =
-    let program = trees_of c.args.known.terms.now in
-    let none : length c.in-Ok.errors ≡ 0 = grind (arith, c.is_empty.ensures, c.if-is_empty.true) in
-    none_wrong program c.in-Ok.errors (c.in-Ok.ensures ∙ block_told program c.requires.terms) none
+    let right = c.in-Ok-index.ensures.right in
+    let none : length c.in-Ok.kinds ≡ 0 = grind (arith, c.is_empty.ensures, c.if-is_empty.true) in
+    (right, none_wrong (type_errors (trees_of c.args.known.terms.now)) c.in-Ok.kinds (c.in-Ok.ensures c.requires.terms right) none)
 
 pub returns-else-is_empty-clause-refused : goal.returns-else-is_empty-clause-refused
 returns-else-is_empty-clause-refused c =
     let program = trees_of c.args.known.terms.now in
-    let some : length c.in-Ok.errors ≡ 0 → ⊥ = λ e. let never : ⊥ = grind (arith, e, c.is_empty.ensures, c.if-is_empty.false) in never in
-    let told = c.in-Ok.ensures ∙ block_told program c.requires.terms in
-    (told, some_wrong program c.in-Ok.errors told some)
+    let right = c.in-Ok-index.ensures.right in
+    let some : length c.in-Ok.kinds ≡ 0 → ⊥ = λ e. let never : ⊥ = grind (arith, e, c.is_empty.ensures, c.if-is_empty.false) in never in
+    let told = c.in-Ok.ensures c.requires.terms right in
+    let first = first_kinds (name_errors program) (type_errors program) right in
+    (told ∙ first, λ e. some_wrong (type_errors program) c.in-Ok.kinds told some (first ∙ e))
+
+pub returns-in-Err-index-clause-refused : goal.returns-in-Err-index-clause-refused
+returns-in-Err-index-clause-refused c =
+    let program = trees_of c.args.known.terms.now in
+    refuses_first c.in-Err-index.stage (name_errors program) (type_errors program) c.in-Err-index.ensures.refused

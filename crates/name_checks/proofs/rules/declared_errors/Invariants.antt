@@ -1,7 +1,7 @@
 use Rattle.name_checks.proofs.rules.declared_errors.Given as goal
 
-abbrev pub ghost-place : goal.ghost-place
-ghost-place g a = g.whole
+abbrev pub ghost-declared_at : goal.ghost-declared_at
+ghost-declared_at g a = g.whole
 
 abbrev pub ghost-is_new : goal.ghost-is_new
 ghost-is_new g a = g.whole

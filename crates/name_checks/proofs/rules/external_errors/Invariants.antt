@@ -1,7 +1,7 @@
 use Rattle.name_checks.proofs.rules.external_errors.Given as goal
 
-abbrev pub ghost-place : goal.ghost-place
-ghost-place g a = g.whole
+abbrev pub ghost-declared_at : goal.ghost-declared_at
+ghost-declared_at g a = g.whole
 
 abbrev pub ghost-is_declared : goal.ghost-is_declared
 ghost-is_declared g a = g.whole

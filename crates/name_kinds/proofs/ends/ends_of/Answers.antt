@@ -1,7 +1,7 @@
 use Rattle.std.proofs.Common.{◌<◌, length, sym, ap, ◌∙◌, arith}
 use Rattle.std.specs.Prelude.{replicate}
 use Rattle.std.proofs.lemmas.List.Elements.{All-weaker}
-use Rattle.name_kinds.specs.declared.ends.Mark.TheVariants as Mark
+use Rattle.name_kinds.specs.declared.ends.WalkState.TheVariants as Mark
 use Rattle.name_kinds.proofs.Following.{unwalked_marked, one_more, all_ended}
 use Rattle.name_kinds.proofs.ends.ends_of.Goals as goal
 

@@ -2,7 +2,7 @@ use Rattle.std.proofs.Common.{◌≡◌, ◌<◌, ◌++◌, ◌∷◌, [], get_o
 use Rattle.std.proofs.lemmas.List.Elements.{All-same}
 use Rattle.acpi_names.specs.Errors.{final}
 use Rattle.name_kinds.specs.Ends.{IsMarked, ended}
-use Rattle.name_kinds.specs.declared.ends.Mark.TheVariants as Mark
+use Rattle.name_kinds.specs.declared.ends.WalkState.TheVariants as Mark
 use Rattle.name_kinds.proofs.Following.{Behind, left, fewer_left, entered, goes_on, stops_behind, returns_here, started, marked_kept, walk_is_marked}
 use Rattle.name_kinds.proofs.Noting.{read_at}
 use Rattle.name_kinds.proofs.ends.follow.Goals as goal

@@ -1,7 +1,7 @@
 use Rattle.std.proofs.Common.{◌≡◌, ◌<◌, ℕ, [], get_or, length}
 use Rattle.std.specs.Prelude.{All}
 use Rattle.name_kinds.specs.Ends.{AreMarked, IsMarked}
-use Rattle.name_kinds.specs.declared.ends.Mark.TheVariants as Mark
+use Rattle.name_kinds.specs.declared.ends.WalkState.TheVariants as Mark
 use Rattle.name_kinds.proofs.Following.{Behind, left}
 use Rattle.name_kinds.proofs.ends.follow.Given as goal
 

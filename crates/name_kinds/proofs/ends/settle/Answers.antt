@@ -3,7 +3,7 @@ use Rattle.std.proofs.lemmas.List.{length-set}
 use Rattle.std.proofs.lemmas.List.Elements.{All-pop, All-weaker}
 use Rattle.acpi_names.specs.Errors.{final}
 use Rattle.name_kinds.specs.Ends.{ended}
-use Rattle.name_kinds.specs.declared.ends.Mark.TheVariants as Mark
+use Rattle.name_kinds.specs.declared.ends.WalkState.TheVariants as Mark
 use Rattle.name_kinds.proofs.Following.{settled, emptied, marked_kept, end_is_marked}
 use Rattle.name_kinds.proofs.ends.settle.Goals as goal
 

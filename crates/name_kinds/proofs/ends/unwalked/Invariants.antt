@@ -1,6 +1,6 @@
 use Rattle.std.proofs.Common.{◌≡◌, length}
 use Rattle.std.specs.Prelude.{replicate}
-use Rattle.name_kinds.specs.declared.ends.Mark.TheVariants as Mark
+use Rattle.name_kinds.specs.declared.ends.WalkState.TheVariants as Mark
 use Rattle.name_kinds.proofs.ends.unwalked.Given as goal
 
 abbrev pub invariant-loop-number : goal.invariant-loop-number

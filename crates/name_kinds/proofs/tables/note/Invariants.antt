@@ -6,5 +6,5 @@ ghost-denoted g a = g.whole
 abbrev pub ghost-declared_kind : goal.ghost-declared_kind
 ghost-declared_kind g a = g.whole
 
-abbrev pub ghost-place : goal.ghost-place
-ghost-place g a = g.whole
+abbrev pub ghost-declared_at : goal.ghost-declared_at
+ghost-declared_at g a = g.whole

@@ -56,7 +56,8 @@ spell_but-loop-number-preserved t c =
     let scope = get_or c.args.index.now.paths c.args.scope [] in record {
       grows = grows_then c.args.index.now.paths c.loop-number.index.paths c.spell_other.new.index.paths c.args.index.now.named.items c.loop-number.index.named.items c.spell_other.new.index.named.items c.args.calls.now grows now.grows;
       turns = turns_next c.args.index.now.paths c.args.index.now.named.items c.args.calls.now (λ d counts k t'. other_spelled c.args.shorten (is_named d) (written_external counts) (nat_eq k c.args.place) t' scope) c.deref_mut-node-items.result.now c.loop-number.node-items c.loop-number.number c.node-item.result c.spell_other.new.node c.loop-number-test.true c.loop-number.invariant.turns
-          (said_before c.args.index.now.paths c.loop-number.index.paths c.args.index.now.named.items c.loop-number.index.named.items c.args.calls.now (λ d counts s. other_spelled c.args.shorten (is_named d) (written_external counts) (nat_eq c.loop-number.number c.args.place) (node_tree (get_or c.loop-number.node-items c.loop-number.number c.node-item.result)) s) (node_tree c.spell_other.new.node) c.args.scope c.requires.scope_in grows now.spells);
+          (said_before c.args.index.now.paths c.loop-number.index.paths c.args.index.now.named.items c.loop-number.index.named.items c.args.calls.now
+          (λ d counts s. other_spelled c.args.shorten (is_named d) (written_external counts) (nat_eq c.loop-number.number c.args.place) (node_tree (get_or c.loop-number.node-items c.loop-number.number c.node-item.result)) s) (node_tree c.spell_other.new.node) c.args.scope c.requires.scope_in grows now.spells);
     }
 
 pub spell_but-returns-clause-spells : goal.spell_but-returns-clause-spells
@@ -79,8 +80,10 @@ spell_elements-loop-node-preserved t c =
     let now = c.in_ok-spell_item.ensures in
     let scope = get_or c.args.index.now.paths c.args.scope [] in record {
       grows = grows_then c.args.index.now.paths c.loop-node.index.paths c.spell_item.new.index.paths c.args.index.now.named.items c.loop-node.index.named.items c.spell_item.new.index.named.items c.args.calls.now grows now.grows;
-      turns = turns_next c.args.index.now.paths c.args.index.now.named.items c.args.calls.now (λ d counts k t'. element_spelled c.args.shorten (is_named d) t' (spelled c.args.shorten (is_named d) (written_external counts) t' scope) scope) c.deref_mut-node-items.result.now c.loop-node.node-items c.loop-node.node-index c.node-item.result c.spell_item.new.node c.loop-node-test.true c.loop-node.invariant.turns
-          (said_before c.args.index.now.paths c.loop-node.index.paths c.args.index.now.named.items c.loop-node.index.named.items c.args.calls.now (λ d counts s. element_spelled c.args.shorten (is_named d) (node_tree (get_or c.loop-node.node-items c.loop-node.node-index c.node-item.result)) (spelled c.args.shorten (is_named d) (written_external counts) (node_tree (get_or c.loop-node.node-items c.loop-node.node-index c.node-item.result)) s) s) (node_tree c.spell_item.new.node) c.args.scope c.requires.scope_in grows now.spells);
+      turns = turns_next c.args.index.now.paths c.args.index.now.named.items c.args.calls.now
+          (λ d counts k t'. element_spelled c.args.shorten (is_named d) t' (spelled c.args.shorten (is_named d) (written_external counts) t' scope) scope) c.deref_mut-node-items.result.now c.loop-node.node-items c.loop-node.node-index c.node-item.result c.spell_item.new.node c.loop-node-test.true c.loop-node.invariant.turns
+          (said_before c.args.index.now.paths c.loop-node.index.paths c.args.index.now.named.items c.loop-node.index.named.items c.args.calls.now
+          (λ d counts s. element_spelled c.args.shorten (is_named d) (node_tree (get_or c.loop-node.node-items c.loop-node.node-index c.node-item.result)) (spelled c.args.shorten (is_named d) (written_external counts) (node_tree (get_or c.loop-node.node-items c.loop-node.node-index c.node-item.result)) s) s) (node_tree c.spell_item.new.node) c.args.scope c.requires.scope_in grows now.spells);
       places = places_set c.loop-node.node-items c.loop-node.node-index c.node-item.result c.spell_item.new.node (omega (arith, c.loop-node-test.true, c.loop-node.invariant.turns.size)) now.places ∙ c.loop-node.invariant.places;
     }
 
@@ -118,7 +121,8 @@ spell_value-returns-in_ok-spell_elements-in-Package-clause-args t c d counts agr
 
 pub spell_value-returns-in_ok-spell_elements-in-Package-clause-body : goal.spell_value-returns-in_ok-spell_elements-in-Package-clause-body
 spell_value-returns-in_ok-spell_elements-in-Package-clause-body t c d counts agrees tabled =
-    all_before c.args.index.now.paths c.spell_all-in-Package.new.index.paths c.args.index.now.named.items c.spell_all-in-Package.new.index.named.items c.args.calls.now (λ d counts s. spelled_elements c.args.shorten (is_named d) (written_external counts) (trees_of c.args.body.now.items) s) (trees_of c.spell_elements.new.nodes.items) c.args.scope c.requires.scope_in c.in_ok-spell_all-in-Package.ensures.grows c.in_ok-spell_elements-in-Package.ensures.spells d counts agrees tabled
+    all_before c.args.index.now.paths c.spell_all-in-Package.new.index.paths c.args.index.now.named.items c.spell_all-in-Package.new.index.named.items c.args.calls.now
+    (λ d counts s. spelled_elements c.args.shorten (is_named d) (written_external counts) (trees_of c.args.body.now.items) s) (trees_of c.spell_elements.new.nodes.items) c.args.scope c.requires.scope_in c.in_ok-spell_all-in-Package.ensures.grows c.in_ok-spell_elements-in-Package.ensures.spells d counts agrees tabled
     ∙ sym (ap (λ form. value_body c.args.shorten (is_named d) (written_external counts) form (trees_of c.args.body.now.items) (get_or c.args.index.now.paths c.args.scope [])) c.in-Package.is)
 
 pub spell_value-returns-in_ok-spell_elements-in-Package-clause-grows : goal.spell_value-returns-in_ok-spell_elements-in-Package-clause-grows
@@ -127,43 +131,56 @@ spell_value-returns-in_ok-spell_elements-in-Package-clause-grows t c =
 
 pub spell_form-returns-in_ok-spell_all-in-Returns-clause-args : goal.spell_form-returns-in_ok-spell_all-in-Returns-clause-args
 spell_form-returns-in_ok-spell_all-in-Returns-clause-args t c d counts agrees tabled =
-    c.in_ok-spell_all-in-Returns.ensures.spells d counts agrees tabled ∙ ap (λ part. part_args c.args.shorten (is_named d) (written_external counts) part (value_form_of c.args.op (trees_of c.args.args.now.items) (trees_of c.args.body.now.items)) (trees_of c.args.args.now.items) (get_or c.args.index.now.paths c.args.scope [])) (c.in-Returns.ensures ∙ ap (λ ns. part_of c.args.op (trees_of ns) (trees_of c.deref-2.result.now)) c.deref.ensures.value ∙ ap (λ ns. part_of c.args.op (trees_of c.args.args.now.items) (trees_of ns)) c.deref-2.ensures.value)
+    c.in_ok-spell_all-in-Returns.ensures.spells d counts agrees tabled ∙ ap (λ part. part_args c.args.shorten (is_named d) (written_external counts) part (value_form_of c.args.op (trees_of c.args.args.now.items) (trees_of c.args.body.now.items)) (trees_of c.args.args.now.items) (get_or c.args.index.now.paths c.args.scope []))
+    (c.in-Returns.ensures ∙ ap (λ ns. part_of c.args.op (trees_of ns) (trees_of c.deref-2.result.now)) c.deref.ensures.value ∙ ap (λ ns. part_of c.args.op (trees_of c.args.args.now.items) (trees_of ns)) c.deref-2.ensures.value)
 
 pub spell_form-returns-in_ok-spell_all-in-Prints-clause-args : goal.spell_form-returns-in_ok-spell_all-in-Prints-clause-args
 spell_form-returns-in_ok-spell_all-in-Prints-clause-args t c d counts agrees tabled =
-    c.in_ok-spell_all-in-Prints.ensures.spells d counts agrees tabled ∙ ap (λ part. part_args c.args.shorten (is_named d) (written_external counts) part (value_form_of c.args.op (trees_of c.args.args.now.items) (trees_of c.args.body.now.items)) (trees_of c.args.args.now.items) (get_or c.args.index.now.paths c.args.scope [])) (c.in-Prints.ensures ∙ ap (λ ns. part_of c.args.op (trees_of ns) (trees_of c.deref-2.result.now)) c.deref.ensures.value ∙ ap (λ ns. part_of c.args.op (trees_of c.args.args.now.items) (trees_of ns)) c.deref-2.ensures.value)
+    c.in_ok-spell_all-in-Prints.ensures.spells d counts agrees tabled ∙ ap (λ part. part_args c.args.shorten (is_named d) (written_external counts) part (value_form_of c.args.op (trees_of c.args.args.now.items) (trees_of c.args.body.now.items)) (trees_of c.args.args.now.items) (get_or c.args.index.now.paths c.args.scope []))
+    (c.in-Prints.ensures ∙ ap (λ ns. part_of c.args.op (trees_of ns) (trees_of c.deref-2.result.now)) c.deref.ensures.value ∙ ap (λ ns. part_of c.args.op (trees_of c.args.args.now.items) (trees_of ns)) c.deref-2.ensures.value)
 
 pub spell_form-returns-in_ok-spell_all-in-Scope-2-clause-args : goal.spell_form-returns-in_ok-spell_all-in-Scope-2-clause-args
 spell_form-returns-in_ok-spell_all-in-Scope-2-clause-args t c d counts agrees tabled =
-    c.in_ok-spell_all-in-Scope.ensures.spells d counts agrees tabled ∙ ap (λ part. part_args c.args.shorten (is_named d) (written_external counts) part (value_form_of c.args.op (trees_of c.args.args.now.items) (trees_of c.args.body.now.items)) (trees_of c.args.args.now.items) (get_or c.args.index.now.paths c.args.scope [])) (c.in-Scope.ensures ∙ ap (λ ns. part_of c.args.op (trees_of ns) (trees_of c.deref-2.result.now)) c.deref.ensures.value ∙ ap (λ ns. part_of c.args.op (trees_of c.args.args.now.items) (trees_of ns)) c.deref-2.ensures.value)
+    c.in_ok-spell_all-in-Scope.ensures.spells d counts agrees tabled ∙ ap (λ part. part_args c.args.shorten (is_named d) (written_external counts) part (value_form_of c.args.op (trees_of c.args.args.now.items) (trees_of c.args.body.now.items)) (trees_of c.args.args.now.items) (get_or c.args.index.now.paths c.args.scope []))
+    (c.in-Scope.ensures ∙ ap (λ ns. part_of c.args.op (trees_of ns) (trees_of c.deref-2.result.now)) c.deref.ensures.value ∙ ap (λ ns. part_of c.args.op (trees_of c.args.args.now.items) (trees_of ns)) c.deref-2.ensures.value)
 
 pub spell_form-returns-in_ok-spell_all-in-Within-2-clause-args : goal.spell_form-returns-in_ok-spell_all-in-Within-2-clause-args
 spell_form-returns-in_ok-spell_all-in-Within-2-clause-args t c d counts agrees tabled =
-    c.in_ok-spell_all-in-Within.ensures.spells d counts agrees tabled ∙ ap (λ part. part_args c.args.shorten (is_named d) (written_external counts) part (value_form_of c.args.op (trees_of c.args.args.now.items) (trees_of c.args.body.now.items)) (trees_of c.args.args.now.items) (get_or c.args.index.now.paths c.args.scope [])) (c.in-Within.ensures ∙ ap (λ ns. part_of c.args.op (trees_of ns) (trees_of c.deref-2.result.now)) c.deref.ensures.value ∙ ap (λ ns. part_of c.args.op (trees_of c.args.args.now.items) (trees_of ns)) c.deref-2.ensures.value)
+    c.in_ok-spell_all-in-Within.ensures.spells d counts agrees tabled ∙ ap (λ part. part_args c.args.shorten (is_named d) (written_external counts) part (value_form_of c.args.op (trees_of c.args.args.now.items) (trees_of c.args.body.now.items)) (trees_of c.args.args.now.items) (get_or c.args.index.now.paths c.args.scope []))
+    (c.in-Within.ensures ∙ ap (λ ns. part_of c.args.op (trees_of ns) (trees_of c.deref-2.result.now)) c.deref.ensures.value ∙ ap (λ ns. part_of c.args.op (trees_of c.args.args.now.items) (trees_of ns)) c.deref-2.ensures.value)
 
 pub spell_form-returns-in_ok-spell_all-in-Units-2-clause-args : goal.spell_form-returns-in_ok-spell_all-in-Units-2-clause-args
 spell_form-returns-in_ok-spell_all-in-Units-2-clause-args t c d counts agrees tabled =
-    c.in_ok-spell_all-in-Units.ensures.spells d counts agrees tabled ∙ ap (λ part. part_args c.args.shorten (is_named d) (written_external counts) part (value_form_of c.args.op (trees_of c.args.args.now.items) (trees_of c.args.body.now.items)) (trees_of c.args.args.now.items) (get_or c.args.index.now.paths c.args.scope [])) (c.in-Units.ensures ∙ ap (λ ns. part_of c.args.op (trees_of ns) (trees_of c.deref-2.result.now)) c.deref.ensures.value ∙ ap (λ ns. part_of c.args.op (trees_of c.args.args.now.items) (trees_of ns)) c.deref-2.ensures.value)
+    c.in_ok-spell_all-in-Units.ensures.spells d counts agrees tabled ∙ ap (λ part. part_args c.args.shorten (is_named d) (written_external counts) part (value_form_of c.args.op (trees_of c.args.args.now.items) (trees_of c.args.body.now.items)) (trees_of c.args.args.now.items) (get_or c.args.index.now.paths c.args.scope []))
+    (c.in-Units.ensures ∙ ap (λ ns. part_of c.args.op (trees_of ns) (trees_of c.deref-2.result.now)) c.deref.ensures.value ∙ ap (λ ns. part_of c.args.op (trees_of c.args.args.now.items) (trees_of ns)) c.deref-2.ensures.value)
 
 pub spell_form-returns-in_ok-spell_external-in-External-clause-args : goal.spell_form-returns-in_ok-spell_external-in-External-clause-args
 spell_form-returns-in_ok-spell_external-in-External-clause-args t c d counts agrees tabled =
-    c.in_ok-spell_external-in-External.ensures counts tabled ∙ ap (λ part. part_args c.args.shorten (is_named d) (written_external counts) part (value_form_of c.args.op (trees_of c.args.args.now.items) (trees_of c.args.body.now.items)) (trees_of c.args.args.now.items) (get_or c.args.index.now.paths c.args.scope [])) (c.in-External.ensures ∙ ap (λ ns. part_of c.args.op (trees_of ns) (trees_of c.deref-2.result.now)) c.deref.ensures.value ∙ ap (λ ns. part_of c.args.op (trees_of c.args.args.now.items) (trees_of ns)) c.deref-2.ensures.value)
+    c.in_ok-spell_external-in-External.ensures counts tabled ∙ ap (λ part. part_args c.args.shorten (is_named d) (written_external counts) part (value_form_of c.args.op (trees_of c.args.args.now.items) (trees_of c.args.body.now.items)) (trees_of c.args.args.now.items) (get_or c.args.index.now.paths c.args.scope []))
+    (c.in-External.ensures ∙ ap (λ ns. part_of c.args.op (trees_of ns) (trees_of c.deref-2.result.now)) c.deref.ensures.value ∙ ap (λ ns. part_of c.args.op (trees_of c.args.args.now.items) (trees_of ns)) c.deref-2.ensures.value)
 
 pub spell_form-returns-in_ok-spell_all-in-Within-2-clause-body : goal.spell_form-returns-in_ok-spell_all-in-Within-2-clause-body
 spell_form-returns-in_ok-spell_all-in-Within-2-clause-body t c d counts agrees tabled =
-    all_before c.args.index.now.paths c.spell_all-in-Within.new.index.paths c.args.index.now.named.items c.spell_all-in-Within.new.index.named.items c.args.calls.now (λ d counts s. spelled_all c.args.shorten (is_named d) (written_external counts) (trees_of c.args.body.now.items) s) (trees_of c.spell_all-in-Within-2.new.nodes.items) c.args.scope c.requires.scope_in c.in_ok-spell_all-in-Within.ensures.grows c.in_ok-spell_all-in-Within-2.ensures.spells d counts agrees tabled
-    ∙ ap (λ part. part_body c.args.shorten (is_named d) (written_external counts) part (value_form_of c.args.op (trees_of c.args.args.now.items) (trees_of c.args.body.now.items)) (trees_of c.args.args.now.items) (trees_of c.args.body.now.items) (get_or c.args.index.now.paths c.args.scope [])) (c.in-Within.ensures ∙ ap (λ ns. part_of c.args.op (trees_of ns) (trees_of c.deref-2.result.now)) c.deref.ensures.value ∙ ap (λ ns. part_of c.args.op (trees_of c.args.args.now.items) (trees_of ns)) c.deref-2.ensures.value)
+    all_before c.args.index.now.paths c.spell_all-in-Within.new.index.paths c.args.index.now.named.items c.spell_all-in-Within.new.index.named.items c.args.calls.now
+    (λ d counts s. spelled_all c.args.shorten (is_named d) (written_external counts) (trees_of c.args.body.now.items) s) (trees_of c.spell_all-in-Within-2.new.nodes.items) c.args.scope c.requires.scope_in c.in_ok-spell_all-in-Within.ensures.grows c.in_ok-spell_all-in-Within-2.ensures.spells d counts agrees tabled
+    ∙ ap (λ part. part_body c.args.shorten (is_named d) (written_external counts) part (value_form_of c.args.op (trees_of c.args.args.now.items) (trees_of c.args.body.now.items)) (trees_of c.args.args.now.items) (trees_of c.args.body.now.items) (get_or c.args.index.now.paths c.args.scope []))
+    (c.in-Within.ensures ∙ ap (λ ns. part_of c.args.op (trees_of ns) (trees_of c.deref-2.result.now)) c.deref.ensures.value ∙ ap (λ ns. part_of c.args.op (trees_of c.args.args.now.items) (trees_of ns)) c.deref-2.ensures.value)
 
 pub spell_form-returns-in_ok-spell_all-in-Units-2-clause-body : goal.spell_form-returns-in_ok-spell_all-in-Units-2-clause-body
 spell_form-returns-in_ok-spell_all-in-Units-2-clause-body t c d counts agrees tabled =
-    all_before c.args.index.now.paths c.spell_all-in-Units.new.index.paths c.args.index.now.named.items c.spell_all-in-Units.new.index.named.items c.args.calls.now (λ d counts s. spelled_all c.args.shorten (is_named d) (written_external counts) (trees_of c.args.body.now.items) s) (trees_of c.spell_all-in-Units-2.new.nodes.items) c.args.scope c.requires.scope_in c.in_ok-spell_all-in-Units.ensures.grows c.in_ok-spell_all-in-Units-2.ensures.spells d counts agrees tabled
-    ∙ ap (λ part. part_body c.args.shorten (is_named d) (written_external counts) part (value_form_of c.args.op (trees_of c.args.args.now.items) (trees_of c.args.body.now.items)) (trees_of c.args.args.now.items) (trees_of c.args.body.now.items) (get_or c.args.index.now.paths c.args.scope [])) (c.in-Units.ensures ∙ ap (λ ns. part_of c.args.op (trees_of ns) (trees_of c.deref-2.result.now)) c.deref.ensures.value ∙ ap (λ ns. part_of c.args.op (trees_of c.args.args.now.items) (trees_of ns)) c.deref-2.ensures.value)
+    all_before c.args.index.now.paths c.spell_all-in-Units.new.index.paths c.args.index.now.named.items c.spell_all-in-Units.new.index.named.items c.args.calls.now
+    (λ d counts s. spelled_all c.args.shorten (is_named d) (written_external counts) (trees_of c.args.body.now.items) s) (trees_of c.spell_all-in-Units-2.new.nodes.items) c.args.scope c.requires.scope_in c.in_ok-spell_all-in-Units.ensures.grows c.in_ok-spell_all-in-Units-2.ensures.spells d counts agrees tabled
+    ∙ ap (λ part. part_body c.args.shorten (is_named d) (written_external counts) part (value_form_of c.args.op (trees_of c.args.args.now.items) (trees_of c.args.body.now.items)) (trees_of c.args.args.now.items) (trees_of c.args.body.now.items) (get_or c.args.index.now.paths c.args.scope []))
+    (c.in-Units.ensures ∙ ap (λ ns. part_of c.args.op (trees_of ns) (trees_of c.deref-2.result.now)) c.deref.ensures.value ∙ ap (λ ns. part_of c.args.op (trees_of c.args.args.now.items) (trees_of ns)) c.deref-2.ensures.value)
 
 pub spell_form-returns-in_ok-spell_all-in-Scope-2-clause-body : goal.spell_form-returns-in_ok-spell_all-in-Scope-2-clause-body
 spell_form-returns-in_ok-spell_all-in-Scope-2-clause-body t c d counts agrees tabled =
-    all_before c.args.index.now.paths c.spell_all.new.index.paths c.args.index.now.named.items c.spell_all.new.index.named.items c.args.calls.now (λ d counts s. spelled_all c.args.shorten (is_named d) (written_external counts) (trees_of c.args.body.now.items) s) (trees_of c.spell_all-in-Scope.new.nodes.items) c.opened_place-inner.result c.opened_place-inner.ensures.within c.in_ok-spell_all-in-Scope.ensures.grows c.in_ok-spell_all-in-Scope-2.ensures.spells d counts agrees tabled
-    ∙ ap (spelled_all c.args.shorten (is_named d) (written_external counts) (trees_of c.args.body.now.items)) (c.opened_place-inner.ensures.path ∙ ap (λ ns. opened_at (is_named_in c.args.index.now.paths c.args.index.now.named.items) (trees_of ns) (get_or c.args.index.now.paths c.args.scope [])) c.deref-in-Scope.ensures.value ∙ opened_same (is_named_in c.args.index.now.paths c.args.index.now.named.items) (is_named d) agrees (trees_of c.args.args.now.items) (get_or c.args.index.now.paths c.args.scope []))
-    ∙ ap (λ part. part_body c.args.shorten (is_named d) (written_external counts) part (value_form_of c.args.op (trees_of c.args.args.now.items) (trees_of c.args.body.now.items)) (trees_of c.args.args.now.items) (trees_of c.args.body.now.items) (get_or c.args.index.now.paths c.args.scope [])) (c.in-Scope.ensures ∙ ap (λ ns. part_of c.args.op (trees_of ns) (trees_of c.deref-2.result.now)) c.deref.ensures.value ∙ ap (λ ns. part_of c.args.op (trees_of c.args.args.now.items) (trees_of ns)) c.deref-2.ensures.value)
+    all_before c.args.index.now.paths c.spell_all.new.index.paths c.args.index.now.named.items c.spell_all.new.index.named.items c.args.calls.now
+    (λ d counts s. spelled_all c.args.shorten (is_named d) (written_external counts) (trees_of c.args.body.now.items) s) (trees_of c.spell_all-in-Scope.new.nodes.items) c.opened_place-inner.result c.opened_place-inner.ensures.within c.in_ok-spell_all-in-Scope.ensures.grows c.in_ok-spell_all-in-Scope-2.ensures.spells d counts agrees tabled
+    ∙ ap (spelled_all c.args.shorten (is_named d) (written_external counts) (trees_of c.args.body.now.items)) (c.opened_place-inner.ensures.path ∙ ap (λ ns. opened_at (is_named_in c.args.index.now.paths c.args.index.now.named.items) (trees_of ns) (get_or c.args.index.now.paths c.args.scope [])) c.deref-in-Scope.ensures.value
+    ∙ opened_same (is_named_in c.args.index.now.paths c.args.index.now.named.items) (is_named d) agrees (trees_of c.args.args.now.items) (get_or c.args.index.now.paths c.args.scope []))
+    ∙ ap (λ part. part_body c.args.shorten (is_named d) (written_external counts) part (value_form_of c.args.op (trees_of c.args.args.now.items) (trees_of c.args.body.now.items)) (trees_of c.args.args.now.items) (trees_of c.args.body.now.items) (get_or c.args.index.now.paths c.args.scope []))
+    (c.in-Scope.ensures ∙ ap (λ ns. part_of c.args.op (trees_of ns) (trees_of c.deref-2.result.now)) c.deref.ensures.value ∙ ap (λ ns. part_of c.args.op (trees_of c.args.args.now.items) (trees_of ns)) c.deref-2.ensures.value)
 
 pub spell_form-returns-in_ok-spell_all-in-Scope-2-clause-grows : goal.spell_form-returns-in_ok-spell_all-in-Scope-2-clause-grows
 spell_form-returns-in_ok-spell_all-in-Scope-2-clause-grows t c =
@@ -184,7 +201,8 @@ spell_inner-returns-in_ok-spell_all-in-Call-clause-spells t c d counts agrees ta
 
 pub spell_inner-returns-in_ok-spell_form-in-Form-clause-spells : goal.spell_inner-returns-in_ok-spell_form-in-Form-clause-spells
 spell_inner-returns-in_ok-spell_form-in-Form-clause-spells t c d counts agrees tabled =
-    form_spelled c.args.shorten (is_named d) (written_external counts) (at_of c.args.node.now) (get_or c.args.index.now.paths c.args.scope []) (arity_written counts) c.args.node.now.term _ _ _ c.spell_form.new.args c.spell_form.new.body (form_is c.args.node.now.term c.in-Form.op _ c.in-Form.args _ c.in-Form.body _ c.in-Form.op-is c.in-Form.args-is c.in-Form.body-is c.in-Form.is) (c.in_ok-spell_form-in-Form.ensures.args d counts agrees tabled) (c.in_ok-spell_form-in-Form.ensures.body d counts agrees tabled)
+    form_spelled c.args.shorten (is_named d) (written_external counts) (at_of c.args.node.now) (get_or c.args.index.now.paths c.args.scope []) (arity_written counts) c.args.node.now.term _ _ _ c.spell_form.new.args c.spell_form.new.body (form_is c.args.node.now.term c.in-Form.op _ c.in-Form.args _ c.in-Form.body _ c.in-Form.op-is c.in-Form.args-is c.in-Form.body-is c.in-Form.is)
+    (c.in_ok-spell_form-in-Form.ensures.args d counts agrees tabled) (c.in_ok-spell_form-in-Form.ensures.body d counts agrees tabled)
 
 pub spell_inner-returns-in_default : goal.spell_inner-returns-in_default
 spell_inner-returns-in_default t c =
@@ -213,12 +231,14 @@ spell_item-returns-in_ok-spell_one-in_default t c =
     let unnamed : path_of c.args.node.now.term ≡ None = search rules in record {
       grows = c.in_ok-spell_one-in_default.ensures.grows;
       places = c.in_ok-spell_one-in_default.ensures.places;
-      spells = λ d counts agrees tabled. c.in_ok-spell_one-in_default.ensures.spells d counts agrees tabled ∙ sym (element_unnamed c.args.shorten (is_named d) (written_external counts) (at_of c.args.node.now) (get_or c.args.index.now.paths c.args.scope []) c.args.node.now.term (spelled c.args.shorten (is_named d) (written_external counts) (node_tree c.args.node.now) (get_or c.args.index.now.paths c.args.scope [])) unnamed);
+      spells = λ d counts agrees tabled. c.in_ok-spell_one-in_default.ensures.spells d counts agrees tabled
+          ∙ sym (element_unnamed c.args.shorten (is_named d) (written_external counts) (at_of c.args.node.now) (get_or c.args.index.now.paths c.args.scope []) c.args.node.now.term (spelled c.args.shorten (is_named d) (written_external counts) (node_tree c.args.node.now) (get_or c.args.index.now.paths c.args.scope [])) unnamed);
     }
 
 pub spell_declared-returns-clause-args : goal.spell_declared-returns-clause-args
 spell_declared-returns-clause-args t c d counts agrees tabled =
-    all_before c.args.index.now.paths c.spell_inside.new.index.paths c.args.index.now.named.items c.spell_inside.new.index.named.items c.args.calls.now (λ d counts s. spelled_but c.args.shorten (is_named d) (written_external counts) c.args.place (trees_of c.args.args.now.items) s) (trees_of c.spell_but.new.nodes.items) c.args.scope c.requires.scope_in c.in_ok-spell_inside.ensures.grows c.in_ok-spell_but.ensures.spells d counts agrees tabled
+    all_before c.args.index.now.paths c.spell_inside.new.index.paths c.args.index.now.named.items c.spell_inside.new.index.named.items c.args.calls.now
+    (λ d counts s. spelled_but c.args.shorten (is_named d) (written_external counts) c.args.place (trees_of c.args.args.now.items) s) (trees_of c.spell_but.new.nodes.items) c.args.scope c.requires.scope_in c.in_ok-spell_inside.ensures.grows c.in_ok-spell_but.ensures.spells d counts agrees tabled
 
 pub spell_declared-returns-clause-grows : goal.spell_declared-returns-clause-grows
 spell_declared-returns-clause-grows t c =
@@ -226,7 +246,8 @@ spell_declared-returns-clause-grows t c =
 
 pub spell_inside-returns-clause-body : goal.spell_inside-returns-clause-body
 spell_inside-returns-clause-body t c d counts agrees tabled =
-    known_before c.args.index.now.paths c.declared_place.new.index.paths c.args.index.now.named.items c.declared_place.new.index.named.items c.args.calls.now (λ d counts. trees_of c.spell_all.new.nodes.items ≡ spelled_all c.args.shorten (is_named d) (written_external counts) (trees_of c.args.body.now.items) (get_or c.declared_place.new.index.paths c.in_ok-inner.inner [])) c.in_ok-inner.ensures.grows c.in_ok-spell_all.ensures.spells d counts agrees tabled
+    known_before c.args.index.now.paths c.declared_place.new.index.paths c.args.index.now.named.items c.declared_place.new.index.named.items c.args.calls.now
+    (λ d counts. trees_of c.spell_all.new.nodes.items ≡ spelled_all c.args.shorten (is_named d) (written_external counts) (trees_of c.args.body.now.items) (get_or c.declared_place.new.index.paths c.in_ok-inner.inner [])) c.in_ok-inner.ensures.grows c.in_ok-spell_all.ensures.spells d counts agrees tabled
     ∙ ap (spelled_all c.args.shorten (is_named d) (written_external counts) (trees_of c.args.body.now.items)) c.in_ok-inner.ensures.path
     ∙ sym (ap (λ opens. opened_body c.args.shorten (is_named d) (written_external counts) opens (trees_of c.args.body.now.items) (place_at c.args.place (trees_of c.args.args.now) (get_or c.args.index.now.paths c.args.scope []))) c.if-not-opens.false)
 

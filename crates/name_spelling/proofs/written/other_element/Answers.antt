@@ -9,4 +9,5 @@ returns-in_ok-push-in-None-nearest c =
     let paths = c.args.index.now.paths in
     let scope = get_or paths c.args.scope [] in
     pushed_path c.in_ok-path-in-None-nearest.path c.push.new.self c.in-Some.segment scope c.in_ok-path-in-None-nearest.ensures c.in_ok-push-in-None-nearest.ensures.ok
-    ∙ sym (item_searched (is_named_in paths c.args.index.now.named.items) c.args.shorten c.args.name.now c.in-Some.segment scope (sym c.in-Some.ensures) ∙ element_new (is_named_in paths c.args.index.now.named.items) c.args.name.now c.in-Some.segment scope (sym c.in-Some.ensures) (ap (λ ns. first_of (candidates (is_named_in paths ns) (enclosing c.in-Some.segment scope))) (sym c.deref.ensures.value) ∙ sym c.in-None-nearest.ensures.path))
+    ∙ sym (item_searched (is_named_in paths c.args.index.now.named.items) c.args.shorten c.args.name.now c.in-Some.segment scope (sym c.in-Some.ensures)
+    ∙ element_new (is_named_in paths c.args.index.now.named.items) c.args.name.now c.in-Some.segment scope (sym c.in-Some.ensures) (ap (λ ns. first_of (candidates (is_named_in paths ns) (enclosing c.in-Some.segment scope))) (sym c.deref.ensures.value) ∙ sym c.in-None-nearest.ensures.path))

@@ -5,7 +5,8 @@ use std::test::Fail;
 // Descriptors of pins and of a serial bus with each argument in a wrong form or out of its range.
 static ERRORS_OF_SERIAL: [(&str, &str); 21] = [
     (
-        "NAME ( A , RESOURCETEMPLATE ( ) { GPIOINT ( EDGE , ACTIVEBOTH , SHAREDANDWAKE , 255 , 65535 , \"S , 255 , RESOURCEPRODUCER , N , ) { 65535 } } )",
+        "NAME ( A , RESOURCETEMPLATE ( ) { GPIOINT ( EDGE , ACTIVEBOTH , SHAREDANDWAKE , 255 , 65535 , \"S , 255 , RESOURCEPRODUCER , \
+            N , ) { 65535 } } )",
         "none",
     ),
     (
@@ -49,11 +50,13 @@ static ERRORS_OF_SERIAL: [(&str, &str); 21] = [
         "none",
     ),
     (
-        "NAME ( A , RESOURCETEMPLATE ( ) { I2CSERIALBUSV2 ( 65536 , EDGE , 4294967296 , CONTROLLERINITIATED , \"S , , , , SHAREDANDWAKE , ) } )",
+        "NAME ( A , RESOURCETEMPLATE ( ) { I2CSERIALBUSV2 ( 65536 , EDGE , 4294967296 , CONTROLLERINITIATED , \"S , , , , \
+            SHAREDANDWAKE , ) } )",
         "6024@25 6022@27 6024@29 6022@31 6022@38 ",
     ),
     (
-        "NAME ( A , RESOURCETEMPLATE ( ) { I2CSERIALBUSV2 ( 1 , CONTROLLERINITIATED , 1 , ADDRESSINGMODE7BIT , \"S , 255 , RESOURCEPRODUCER , N , SHARED ) } )",
+        "NAME ( A , RESOURCETEMPLATE ( ) { I2CSERIALBUSV2 ( 1 , CONTROLLERINITIATED , 1 , ADDRESSINGMODE7BIT , \"S , 255 , \
+            RESOURCEPRODUCER , N , SHARED ) } )",
         "none",
     ),
     (
@@ -61,7 +64,8 @@ static ERRORS_OF_SERIAL: [(&str, &str); 21] = [
         "6023@23 ",
     ),
     (
-        "NAME ( A , RESOURCETEMPLATE ( ) { GPIOINT ( CONTROLLERINITIATED , ACTIVELOW , , PULLUP , 0 , \"S ) { 1 } GPIOINT ( , ACTIVELOW , , PULLUP , 0 , \"S ) { 1 } GPIOINT ( EDGE , , , PULLUP , 0 , \"S ) { 1 } } )",
+        "NAME ( A , RESOURCETEMPLATE ( ) { GPIOINT ( CONTROLLERINITIATED , ACTIVELOW , , PULLUP , 0 , \"S ) { 1 } \
+            GPIOINT ( , ACTIVELOW , , PULLUP , 0 , \"S ) { 1 } GPIOINT ( EDGE , , , PULLUP , 0 , \"S ) { 1 } } )",
         "6022@25 6021@39 6021@54 ",
     ),
     (
@@ -73,7 +77,8 @@ static ERRORS_OF_SERIAL: [(&str, &str); 21] = [
         "6021@23 6021@35 ",
     ),
     (
-        "NAME ( A , RESOURCETEMPLATE ( ) { GPIOIO ( , PULLUP , , , , \"S ) GPIOIO ( , 255 , , , , \"S ) { } GPIOIO ( , 255 , , , , \"S , , , , , ) { 1 } } )",
+        "NAME ( A , RESOURCETEMPLATE ( ) { GPIOIO ( , PULLUP , , , , \"S ) GPIOIO ( , 255 , , , , \"S ) { } \
+            GPIOIO ( , 255 , , , , \"S , , , , , ) { 1 } } )",
         "6023@23 6024@33 6021@45 ",
     ),
     (
@@ -81,12 +86,14 @@ static ERRORS_OF_SERIAL: [(&str, &str); 21] = [
         "6022@25 6022@27 6022@29 6022@31 6022@33 6024@35 6022@37 6022@39 6022@41 6022@43 ",
     ),
     (
-        "NAME ( A , RESOURCETEMPLATE ( ) { I2CSERIALBUSV2 ( , CONTROLLERINITIATED , 1 , ADDRESSINGMODE7BIT , \"S ) I2CSERIALBUSV2 ( 1 , CONTROLLERINITIATED , 1 , ADDRESSINGMODE7BIT ) } )",
+        "NAME ( A , RESOURCETEMPLATE ( ) { I2CSERIALBUSV2 ( , CONTROLLERINITIATED , 1 , ADDRESSINGMODE7BIT , \"S ) \
+            I2CSERIALBUSV2 ( 1 , CONTROLLERINITIATED , 1 , ADDRESSINGMODE7BIT ) } )",
         "6021@23 6021@34 ",
     ),
     // They are none of a choice, and the third word of a level is none of an interrupt.
     (
-        "NAME ( A , RESOURCETEMPLATE ( ) { STARTDEPENDENTFNNOPRI ( ) { GPIOIO ( , PULLUP , , , , \"S ) { 1 } IRQ ( EDGE , ACTIVEBOTH ) { } } INTERRUPT ( , EDGE , ACTIVEBOTH ) { 1 } } )",
+        "NAME ( A , RESOURCETEMPLATE ( ) { STARTDEPENDENTFNNOPRI ( ) { GPIOIO ( , PULLUP , , , , \"S ) { 1 } \
+            IRQ ( EDGE , ACTIVEBOTH ) { } } INTERRUPT ( , EDGE , ACTIVEBOTH ) { 1 } } )",
         "6025@27 6022@44 6022@54 ",
     ),
 ];

@@ -1,4 +1,4 @@
-use Rattle.std.proofs.Common.{[], refl, sym, ap, ◌∙◌, arith}
+use Rattle.std.proofs.Common.{sym, ap, ◌∙◌, arith}
 use Rattle.asl_tree.specs.View.{trees_of}
 use Rattle.asl_operators.specs.Letters.{letters_as}
 use Rattle.acpi_names.proofs.Trees.{node_smaller, call_smaller, form_smaller}

@@ -1,6 +1,5 @@
 use Rattle.std.proofs.Common.{[], ap, ◌∙◌}
 use Rattle.asl_tree.specs.View.{trees_of}
-use Rattle.hidden_locals.specs.Locals.{locals_all}
 use Rattle.switch_loops.specs.Reads.{marked_all, operand_locals, none_named}
 use Rattle.switch_loops.proofs.NamedNodes.{arguments_named}
 use Rattle.switch_loops.proofs.locals.named_in.Goals as goal

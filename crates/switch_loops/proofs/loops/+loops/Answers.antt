@@ -1,62 +1,147 @@
-use Rattle.std.proofs.Common.{true, false, refl, sym, ap, subst, drop, ◌∙◌, ◌++◌, arith}
+use Rattle.std.proofs.Common.{◌≡◌, true, false, [], ◌++◌, Vec, Global, reverse, refl, sym, ap, subst, drop, ◌∙◌, arith}
+use Rattle.std.specs.Prelude.{if◌then◌else◌, nat_eq}
+use Rattle.asl_tree.specs.declared.term.Node.{Node}
 use Rattle.asl_tree.specs.View.{trees_of}
+use Rattle.acpi_names.specs.Walked.{node_tree, term_shape}
+use Rattle.acpi_names.proofs.Folds.{at_of}
 use Rattle.acpi_names.proofs.Trees.{form_smaller}
-use Rattle.asl_lower.proofs.Lowered.{popped_size}
-use Rattle.asl_lower.specs.Places.{lowered_places}
-use Rattle.hidden_locals.specs.Locals.{locals_all}
-use Rattle.hidden_locals.specs.Switches.{depth_all}
-use Rattle.hidden_locals.specs.Turns.{nth}
-use Rattle.switch_loops.specs.Links.{looped_all}
-use Rattle.switch_loops.specs.Measures.{capped}
-use Rattle.switch_loops.specs.Reads.{marked_all, none_named, others_of}
-use Rattle.switch_loops.specs.Switched.{has_switch}
-use Rattle.std.specs.Prelude.{◌≡◌, [], if◌then◌else◌, nat_eq, reverse}
-use Rattle.acpi_names.specs.Walked.{node_tree}
 use Rattle.asl_lower.specs.Nests.{backwards}
-use Rattle.hidden_locals.specs.Switches.{case_test}
-use Rattle.hidden_locals.specs.Turns.{local}
+use Rattle.asl_lower.specs.Places.{lowered_places}
+use Rattle.asl_lower.proofs.Backwards.{pushed}
+use Rattle.asl_lower.proofs.Lowered.{popped_size}
+use Rattle.asl_lower.proofs.Turns.{turns_none, turns_next, turn_smaller, front_only, form_is}
+use Rattle.hidden_locals.specs.Locals.{locals_all}
+use Rattle.hidden_locals.specs.Switches.{case_test, depth_all}
+use Rattle.hidden_locals.specs.Turns.{local, nth}
+use Rattle.switch_loops.specs.Braces.{braces_of}
+use Rattle.switch_loops.specs.Found.{IsSoIn}
 use Rattle.switch_loops.specs.Given.{IsGiven, AreGiven}
-use Rattle.switch_loops.specs.Kinds.{form_kind}
-use Rattle.switch_loops.specs.declared.kind.Kind.{Kind}
-use Rattle.switch_loops.specs.Links.{linked, link_trees, link_places, put as put_tree}
+use Rattle.switch_loops.specs.Kept.{all_kept}
+use Rattle.switch_loops.specs.Kinds.{form_kind, shape_kind}
+use Rattle.switch_loops.specs.Links.{linked, looped_all, link_trees, link_places, put as put_tree}
+use Rattle.switch_loops.specs.Measures.{capped}
 use Rattle.switch_loops.specs.Places.{cases_places, default_node_places, looped_places}
-use Rattle.switch_loops.proofs.MadeRows.{lowered_none}
-use Rattle.switch_loops.proofs.Puts.{form_is, body_is, flat_body, flat_unlinked, flat_pushed, put_none, put_next, put_end, given_popped, switch_is, case_is, switch_put, form_unlinked, case_linked, link_next, link_end, chain_is, cases_given, default_given}
-use Rattle.switch_loops.proofs.Unneeded.{whole_with}
-use Rattle.switch_loops.proofs.Wholes.{form_put}
+use Rattle.switch_loops.specs.Reads.{marked_all, none_named, others_of}
+use Rattle.switch_loops.specs.declared.braces.Braces.{Braces}
+use Rattle.switch_loops.specs.declared.found.Found.{Found}
+use Rattle.switch_loops.specs.declared.kind.TermRole.{TermRole}
+use Rattle.switch_loops.proofs.Findings.{nothing_whole, methods_whole}
+use Rattle.switch_loops.proofs.InPlace.{IsLooped, each_looped, flat_looped, flat_placed, form_looped_at, form_placed_at, kept_next, method_holds, method_inside, method_within, other_holds, other_within, terms_hold, terms_within}
+use Rattle.switch_loops.proofs.Keeping.{continue_at, continue_node, kept_other}
+use Rattle.switch_loops.proofs.LoopPlaces.{case_placed, flat_case, not_case, other_braces, term_braces, places_none, places_next, places_end, cases_next, cases_end, cases_kept, first_places}
+use Rattle.switch_loops.proofs.MadeRows.{lowered_none, pushed_places}
+use Rattle.switch_loops.proofs.Puts.{form_is as tree_is, body_is, flat_body, flat_unlinked, put_none, put_next, put_end, given_popped, case_is, form_unlinked, case_linked, link_next, chain_is, cases_given, default_given}
 use Rattle.switch_loops.proofs.Sizes.{cases_fit, default_fits}
-use Rattle.switch_loops.proofs.Switchless.{terms_stay, places_stay}
-use Rattle.switch_loops.proofs.LoopPlaces.{case_placed, flat_case, form_placed, kept_put, not_case, other_braces, term_braces, places_none, places_next, places_end, flat_put, cases_next, cases_end, cases_kept, first_places}
+use Rattle.switch_loops.proofs.Unneeded.{whole_with}
 use Rattle.switch_loops.proofs.loops.+loops.Goals as goal
 
-pub loops-returns-then-not-has_switch : goal.loops-returns-then-not-has_switch
-loops-returns-then-not-has_switch t c =
-    let none = ap has_switch (sym c.deref.ensures.value) ∙ sym c.has_switch.ensures ∙ c.if-not-has_switch.true in
-    record { trees = λ g. terms_stay c.args.terms.items none; places = places_stay c.args.terms.items none }
+-- ---- a method's terms, or a block's
 
-pub loops-returns-clause-trees : goal.loops-returns-clause-trees
-loops-returns-clause-trees t c g =
-    c.in_ok-made.ensures.trees g ∙ ap (λ xs. looped_all c.local_at-flag.result xs false (trees_of c.args.terms.items)) c.deref-5.ensures.value
-    ∙ whole_with c.local_at-flag.result c.measure_all-levels.result.levels _ (trees_of c.args.terms.items)
-    (c.in_ok-free.ensures ∙ ap (λ ns. if nat_eq c.measure_all-levels.result.levels 0 then [] else others_of (marked_all none_named (locals_all (trees_of ns)))) c.deref-3.ensures.value)
-    (ap (λ m. m.levels) c.measure_all-levels.ensures ∙ ap (λ ns. capped (depth_all (trees_of ns))) c.deref-2.ensures.value) (c.local_at-flag.ensures ∙ ap (λ xs. nth xs c.measure_all-levels.result.levels) c.deref-4.ensures.value)
+pub loops_of-returns-in-Nothing : goal.loops_of-returns-in-Nothing
+loops_of-returns-in-Nothing t c =
+    let found = subst (IsSoIn Found.Nothing) c.deref.ensures.value (subst (λ f. IsSoIn f c.deref.result.now) c.in-Nothing.is c.found_in.ensures) in
+    record { trees = λ g. nothing_whole c.args.terms.now.items found; places = sym found.1 }
+
+pub loops_of-returns-in_ok-loops_in-in-Methods-clause-trees : goal.loops_of-returns-in_ok-loops_in-in-Methods-clause-trees
+loops_of-returns-in_ok-loops_in-in-Methods-clause-trees t c g =
+    let found = subst (IsSoIn Found.Methods) c.deref.ensures.value (subst (λ f. IsSoIn f c.deref.result.now) c.in-Methods.is c.found_in.ensures) in
+    c.in_ok-loops_in-in-Methods.ensures.trees g ∙ methods_whole c.args.terms.now.items 0 [] found
+
+pub loops_of-returns-in_ok-loops_in-in-Switch-clause-trees : goal.loops_of-returns-in_ok-loops_in-in-Switch-clause-trees
+loops_of-returns-in_ok-loops_in-in-Switch-clause-trees t c g =
+    c.in_ok-loops_in-in-Switch.ensures.trees g ∙ ap (λ xs. looped_all c.local_at-flag.result xs false (trees_of c.args.terms.now.items)) c.deref-in-Switch-4.ensures.value
+    ∙ whole_with c.local_at-flag.result c.measure_all-levels.result.levels _ (trees_of c.args.terms.now.items)
+    (c.in_ok-free-in-Switch.ensures ∙ ap (λ ns. if nat_eq c.measure_all-levels.result.levels 0 then [] else others_of (marked_all none_named (locals_all (trees_of ns)))) c.deref-in-Switch-2.ensures.value)
+    (ap (λ m. m.levels) c.measure_all-levels.ensures ∙ ap (λ ns. capped (depth_all (trees_of ns))) c.deref-in-Switch.ensures.value) (c.local_at-flag.ensures ∙ ap (λ xs. nth xs c.measure_all-levels.result.levels) c.deref-in-Switch-3.ensures.value)
 
 -- ---- the terms of a list
 
-pub loops_in-loop-node-init : goal.loops_in-loop-node-init
-loops_in-loop-node-init t c = record {
-  trees = λ g. put_none c.args.flag c.args.values.now c.args.inside c.args.terms.items c.new-made.result.items c.new-made.ensures.items;
-  given = λ g. g;
-  size = omega arith;
-  places = places_none c.args.inside c.args.terms.items c.new-made.result.items c.new-made.ensures.items;
+pub loops_in-loops_within-requires : goal.loops_in-loops_within-requires
+loops_in-loops_within-requires t c = (omega (arith, c.decreases), sym (ap (all_kept c.args.inside) c.deref.ensures.value) ∙ c.all_keep.ensures c.if-all_keep.true)
+
+pub loops_within-loop-node-init : goal.loops_within-loop-node-init
+loops_within-loop-node-init t c = turns_none (λ k. IsLooped c.args.flag c.args.values.now c.args.inside) c.deref_mut-node-items.result.now
+
+pub loops_within-loops_at-requires : goal.loops_within-loops_at-requires
+loops_within-loops_at-requires t c = (
+  omega (arith, c.decreases, turn_smaller (λ k. IsLooped c.args.flag c.args.values.now c.args.inside) c.deref_mut-node-items.result.now c.loop-node.node-items c.args.terms.now.items c.loop-node.node-index c.node-item.result c.loop-node.invariant c.loop-node-test.true c.node-item.is c.deref_mut-node-items.ensures.value),
+  kept_next c.args.flag c.args.values.now c.args.inside c.deref_mut-node-items.result.now c.loop-node.node-items c.args.terms.now.items c.loop-node.node-index c.node-item.result c.loop-node.invariant c.loop-node-test.true c.node-item.is c.deref_mut-node-items.ensures.value c.requires,
+)
+
+pub loops_within-loop-node-preserved : goal.loops_within-loop-node-preserved
+loops_within-loop-node-preserved t c =
+    turns_next (λ k. IsLooped c.args.flag c.args.values.now c.args.inside) c.deref_mut-node-items.result.now c.loop-node.node-items c.loop-node.node-index c.node-item.result c.loops_at.new.node c.loop-node-test.true c.loop-node.invariant
+    (record { is = c.in_ok-loops_at.ensures.tree; places = c.in_ok-loops_at.ensures.places })
+
+pub loops_within-returns-clause-trees : goal.loops_within-returns-clause-trees
+loops_within-returns-clause-trees t c g =
+    ap trees_of (front_only c.loop-node.node-items _ c.args.terms.now.len (omega (arith, c.deref_mut-node-items.ensures.len, c.loop-node.auto.node-items)))
+    ∙ (each_looped c.args.flag c.args.values.now c.args.inside c.deref_mut-node-items.result.now c.loop-node.node-items c.loop-node.node-index c.loop-node-test.false c.loop-node.invariant).0 (subst (λ ns. AreGiven (trees_of ns)) (sym c.deref_mut-node-items.ensures.value) g)
+    ∙ ap (λ ns. looped_all c.args.flag c.args.values.now c.args.inside (trees_of ns)) c.deref_mut-node-items.ensures.value
+
+pub loops_within-returns-clause-places : goal.loops_within-returns-clause-places
+loops_within-returns-clause-places t c =
+    ap lowered_places (front_only c.loop-node.node-items _ c.args.terms.now.len (omega (arith, c.deref_mut-node-items.ensures.len, c.loop-node.auto.node-items)))
+    ∙ (each_looped c.args.flag c.args.values.now c.args.inside c.deref_mut-node-items.result.now c.loop-node.node-items c.loop-node.node-index c.loop-node-test.false c.loop-node.invariant).1
+    ∙ ap (looped_places c.args.inside) c.deref_mut-node-items.ensures.value
+
+-- ---- a term that keeps its place
+
+pub loops_at-in_braces-requires : goal.loops_at-in_braces-requires
+loops_at-in_braces-requires t c =
+    let size = form_smaller c.args.node.now.term c.in-Form.op c.in-Form._args c.in-Form.body _ _ c.in-Form.is refl (ap (λ (v : Vec Node Global). v.items) c.in-Form.body-is) in omega (arith, c.decreases, size)
+
+pub loops_at-returns-in_ok-in_braces-in-Form : goal.loops_at-returns-in_ok-in_braces-in-Form
+loops_at-returns-in_ok-in_braces-in-Form t c =
+    let is = form_is c.args.node.now.term c.in-Form.op _ c.in-Form._args _ c.in-Form.body _ c.in-Form.op-is c.in-Form._args-is c.in-Form.body-is c.in-Form.is in record {
+      tree = form_looped_at c.args.flag c.args.values.now c.args.inside (at_of c.args.node.now) c.args.node.now.term _ _ _ c.in_braces.new.body is c.requires c.in_ok-in_braces-in-Form.ensures.trees;
+      places = form_placed_at c.args.inside c.args.node.now.place c.args.node.now.term _ _ _ c.in_braces.new.body is c.requires c.in_ok-in_braces-in-Form.ensures.places;
+    }
+
+pub loops_at-returns-in_default : goal.loops_at-returns-in_default
+loops_at-returns-in_default t c = record {
+  tree = λ g rest. flat_looped c.args.flag c.args.values.now c.args.inside (at_of c.args.node.now) c.args.node.now.term rest c.in_default.not-Form;
+  places = flat_placed c.args.inside c.args.node.now.place c.args.node.now.term c.in_default.not-Form;
 }
 
-pub loops_in-put-requires : goal.loops_in-put-requires
-loops_in-put-requires t c =
+pub in_braces-returns-in_ok-loops_in-in-Terms : goal.in_braces-returns-in_ok-loops_in-in-Terms
+in_braces-returns-in_ok-loops_in-in-Terms t c =
+    let is = sym c.braces_of.ensures ∙ c.in-Terms.is in record {
+      trees = λ g. c.in_ok-loops_in-in-Terms.ensures.trees (g (terms_hold c.args.op is)) ∙ ap (λ b. looped_all c.args.flag c.args.values.now b (trees_of c.args.body.now.items)) c.stays_inside.ensures ∙ sym (terms_within c.args.flag c.args.values.now c.args.inside c.args.op (trees_of c.args.body.now.items) is);
+      places = λ h. c.in_ok-loops_in-in-Terms.ensures.places ∙ ap (λ b. looped_places b c.args.body.now.items) c.stays_inside.ensures;
+    }
+
+pub in_braces-returns-in_ok-loops_of-in-Method : goal.in_braces-returns-in_ok-loops_of-in-Method
+in_braces-returns-in_ok-loops_of-in-Method t c =
+    let is = sym c.braces_of.ensures ∙ c.in-Method.is in record {
+      trees = λ g. c.in_ok-loops_of-in-Method.ensures.trees (g (method_holds c.args.op is)) ∙ sym (method_within c.args.flag c.args.values.now c.args.inside c.args.op (trees_of c.args.body.now.items) is);
+      places = λ h. c.in_ok-loops_of-in-Method.ensures.places ∙ ap (λ b. looped_places b c.args.body.now.items) (sym (method_inside c.args.op c.args.inside is));
+    }
+
+pub in_braces-returns-in_default : goal.in_braces-returns-in_default
+in_braces-returns-in_default t c =
+    let not_terms : braces_of c.args.op ≡ Braces.Terms → ⊥ = λ e. c.in_default.not-Terms (c.braces_of.ensures ∙ e) in
+    let not_method : braces_of c.args.op ≡ Braces.Method → ⊥ = λ e. c.in_default.not-Method (c.braces_of.ensures ∙ e) in record {
+      trees = λ g. sym (other_within c.args.flag c.args.values.now c.args.inside c.args.op (trees_of c.args.body.now.items) not_terms not_method);
+      places = λ h. absurd (other_holds c.args.op not_terms not_method h);
+    }
+
+-- ---- a list in which terms give way to others
+
+pub loops_for-loop-node-init : goal.loops_for-loop-node-init
+loops_for-loop-node-init t c = record {
+  trees = λ g. put_none c.args.flag c.args.values.now c.args.inside c.args.terms.items c.in_ok-made.made.items c.in_ok-made.ensures.items;
+  given = λ g. g;
+  size = omega arith;
+  places = places_none c.args.inside c.args.terms.items c.in_ok-made.made.items c.in_ok-made.ensures.items;
+}
+
+pub loops_for-put-requires : goal.loops_for-put-requires
+loops_for-put-requires t c =
     let size = popped_size c.loop-node.left.items c.pop.new.self.items c.in-Some.node c.in-Some.ensures.items in omega (arith, c.decreases, c.loop-node.invariant.size, size)
 
-pub loops_in-loop-node-preserved : goal.loops_in-loop-node-preserved
-loops_in-loop-node-preserved t c =
+pub loops_for-loop-node-preserved : goal.loops_for-loop-node-preserved
+loops_for-loop-node-preserved t c =
     let size = popped_size c.loop-node.left.items c.pop.new.self.items c.in-Some.node c.in-Some.ensures.items in record {
       trees = λ g. put_next c.args.flag c.args.values.now c.args.inside c.loop-node.left.items c.pop.new.self.items c.loop-node.made.items c.put.new.made.items c.in-Some.node _ c.in-Some.ensures.items
           (c.in_ok-put.ensures.trees (given_popped c.loop-node.left.items c.pop.new.self.items c.in-Some.node c.in-Some.ensures.items (c.loop-node.invariant.given g)).1) (c.loop-node.invariant.trees g);
@@ -65,21 +150,44 @@ loops_in-loop-node-preserved t c =
       places = places_next c.args.inside c.loop-node.left.items c.pop.new.self.items c.loop-node.made.items c.put.new.made.items c.in-Some.node _ c.in-Some.ensures.items c.in_ok-put.ensures.places c.loop-node.invariant.places;
     }
 
-pub loops_in-returns-clause-trees : goal.loops_in-returns-clause-trees
-loops_in-returns-clause-trees t c g =
+pub loops_for-returns-clause-trees : goal.loops_for-returns-clause-trees
+loops_for-returns-clause-trees t c g =
     ap trees_of c.reverse.ensures.items ∙ put_end c.args.flag c.args.values.now c.args.inside c.loop-node.left.items _ (omega (arith, c.in_default.ensures.cases.0)) ∙ c.loop-node.invariant.trees g
 
-pub loops_in-returns-clause-places : goal.loops_in-returns-clause-places
-loops_in-returns-clause-places t c =
+pub loops_for-returns-clause-places : goal.loops_for-returns-clause-places
+loops_for-returns-clause-places t c =
     ap lowered_places c.reverse.ensures.items ∙ places_end c.args.inside c.loop-node.left.items _ (omega (arith, c.in_default.ensures.cases.0)) ∙ c.loop-node.invariant.places
 
 -- ---- a term
 
-pub put-put_form-requires : goal.put-put_form-requires
-put-put_form-requires t c = omega (arith, c.decreases, form_smaller c.args.node.term c.in-Form.op c.in-Form.args c.in-Form.body c.in-Form.args.items c.in-Form.body.items c.in-Form.is refl refl)
+pub put-put_switch-requires : goal.put-put_switch-requires
+put-put_switch-requires t c = omega (arith, c.decreases, c.parts-value.ensures.size)
 
-pub put-returns-in_ok-push-in_default-clause-places : goal.put-returns-in_ok-push-in_default-clause-places
-put-returns-in_ok-push-in_default-clause-places t c = flat_put c.args.inside c.args.made.now.items c.push.new.self.items c.args.node c.in_default.not-Form c.in_ok-push-in_default.ensures.items
+pub put-parts-value-requires : goal.put-parts-value-requires
+put-parts-value-requires t c = sym c.kind_of.ensures ∙ c.in-Switch.is
+
+pub put-returns-in_ok-put_switch-in-Switch : goal.put-returns-in_ok-put_switch-in-Switch
+put-returns-in_ok-put_switch-in-Switch t c = record {
+  trees = λ g. let given = subst IsGiven c.parts-value.ensures.tree g in
+      c.in_ok-put_switch-in-Switch.ensures.trees given.0 given.1 ∙ ap (λ tr. put_tree c.args.flag c.args.values.now c.args.inside tr (backwards c.args.made.now.items)) (sym c.parts-value.ensures.tree);
+  places = c.in_ok-put_switch-in-Switch.ensures.places ∙ ap (λ ps. ps ++ lowered_places (reverse c.args.made.now.items)) (sym (c.parts-value.ensures.places c.args.inside));
+}
+
+pub put-returns-in_ok-put_continue-in-Continue : goal.put-returns-in_ok-put_continue-in-Continue
+put-returns-in_ok-put_continue-in-Continue t c =
+    let is = sym c.kind_of.ensures ∙ c.in-Continue.is in record {
+      trees = λ g. c.in_ok-put_continue-in-Continue.ensures.trees ∙ continue_node c.args.flag c.args.values.now c.args.inside c.args.node (backwards c.args.made.now.items) is;
+      places = c.in_ok-put_continue-in-Continue.ensures.places ∙ ap (λ ps. ps ++ lowered_places (reverse c.args.made.now.items)) (continue_at c.args.inside c.args.node.place c.args.node.term is);
+    }
+
+pub put-loops_at-requires : goal.put-loops_at-requires
+put-loops_at-requires t c = (omega (arith, c.decreases), kept_other c.args.inside (shape_kind (term_shape c.args.node.term)) (λ e. c.in_default.not-Switch (c.kind_of.ensures ∙ e)) (λ e. c.in_default.not-Continue (c.kind_of.ensures ∙ e)))
+
+pub put-returns-in_ok-push-in_default : goal.put-returns-in_ok-push-in_default
+put-returns-in_ok-push-in_default t c = record {
+  trees = λ g. pushed c.args.made.now.items c.push.new.self.items c.loops_at.new.node c.in_ok-push-in_default.ensures.items ∙ c.in_ok-loops_at-in_default.ensures.tree g (backwards c.args.made.now.items);
+  places = pushed_places c.args.made.now.items c.push.new.self.items c.loops_at.new.node c.in_ok-push-in_default.ensures.items ∙ ap (λ ps. ps ++ lowered_places (reverse c.args.made.now.items)) c.in_ok-loops_at-in_default.ensures.places;
+}
 
 -- ---- the chain of a Switch
 
@@ -121,10 +229,10 @@ terms_of-loops_in-requires t c = omega (arith, c.decreases, form_smaller c.args.
 pub terms_of-returns-in-Form-clause-trees : goal.terms_of-returns-in-Form-clause-trees
 terms_of-returns-in-Form-clause-trees t c g =
     let body = body_is c.args.term c.in-Form._op c.in-Form._args c.in-Form.body c.in-Form.is in
-    c.in_ok-made-in-Form.ensures.trees (subst AreGiven body g) ∙ ap (λ xs. looped_all c.args.flag xs true (trees_of c.in-Form.body.items)) c.later.ensures ∙ ap (looped_all c.args.flag (drop 1 c.args.values.now) true) (sym body)
+    c.in_ok-loops_in-in-Form.ensures.trees (subst AreGiven body g) ∙ ap (λ xs. looped_all c.args.flag xs true (trees_of c.in-Form.body.items)) c.later.ensures ∙ ap (looped_all c.args.flag (drop 1 c.args.values.now) true) (sym body)
 
 pub terms_of-returns-in-Form-clause-places : goal.terms_of-returns-in-Form-clause-places
-terms_of-returns-in-Form-clause-places t c = c.in_ok-made-in-Form.ensures.places ∙ term_braces c.args.term c.in-Form._op c.in-Form._args c.in-Form.body c.in-Form.is
+terms_of-returns-in-Form-clause-places t c = c.in_ok-loops_in-in-Form.ensures.places ∙ term_braces c.args.term c.in-Form._op c.in-Form._args c.in-Form.body c.in-Form.is
 
 pub terms_of-returns : goal.terms_of-returns
 terms_of-returns t c = record {
@@ -139,7 +247,7 @@ case_before-form_before-requires t c = omega (arith, c.decreases, form_smaller c
 
 pub case_before-returns-in-Form-clause-trees : goal.case_before-returns-in-Form-clause-trees
 case_before-returns-in-Form-clause-trees t c g =
-    let same = form_is (record { id = c.args.node.id; place = c.args.node.place }) c.args.node.term c.in-Form.op c.in-Form.args c.in-Form.body c.in-Form.is in
+    let same = tree_is (record { id = c.args.node.id; place = c.args.node.place }) c.args.node.term c.in-Form.op c.in-Form.args c.in-Form.body c.in-Form.is in
     c.in_ok-link-in-Form.ensures.trees (subst IsGiven same g) ∙ ap (λ tr. linked c.args.flag c.args.values.now tr (link_trees c.args.following)) (sym same)
 
 pub case_before-returns-in-Form-clause-places : goal.case_before-returns-in-Form-clause-places
@@ -157,45 +265,16 @@ form_before-only-requires t c = (case_is c.args.op c.args.args.items c.args.body
 
 pub form_before-returns-in_ok-terms-in-Case-clause-trees : goal.form_before-returns-in_ok-terms-in-Case-clause-trees
 form_before-returns-in_ok-terms-in-Case-clause-trees t c g =
-    case_linked c.args.flag c.args.values.now (record { id = c.args.origin.id; place = c.args.origin.place }) c.args.op c.args.args.items c.args.body.items c.only.result (node_tree c.in_ok-test-in-Case.test) (node_tree c.in_ok-test-in-Case-2.test) (trees_of c.in_ok-body-in-Case.body.items) (trees_of c.in_ok-terms-in-Case.terms.items) (link_trees c.args.following)
+    case_linked c.args.flag c.args.values.now (record { id = c.args.origin.id; place = c.args.origin.place }) c.args.op c.args.args.items c.args.body.items c.only.result (node_tree c.in_ok-test-in-Case.test) (node_tree c.in_ok-test-in-Case-2.test) (trees_of c.loops_in.new.terms.items) (trees_of c.in_ok-terms-in-Case.terms.items) (link_trees c.args.following)
     (sym (c.in-Case.ensures ∙ ap (λ ns. form_kind c.args.op (trees_of ns) (trees_of c.deref-2.result.now)) c.deref.ensures.value ∙ ap (λ ns. form_kind c.args.op (trees_of c.args.args.items) (trees_of ns)) c.deref-2.ensures.value)) c.only.ensures
     (λ h. c.in_ok-test-in-Case.ensures h ∙ ap (λ i. case_test (local i) (node_tree c.only.result)) c.local_at.ensures)
-    (λ h. c.in_ok-body-in-Case.ensures.trees h ∙ ap (λ xs. looped_all c.args.flag xs true (trees_of c.args.body.items)) c.later.ensures)
+    (λ h. c.in_ok-loops_in-in-Case.ensures.trees h ∙ ap (λ xs. looped_all c.args.flag xs true (trees_of c.args.body.items)) c.later.ensures)
     c.in_ok-test-in-Case-2.ensures.tree c.in_ok-terms-in-Case.ensures.trees g
 
 pub form_before-returns-in_default : goal.form_before-returns-in_default
-form_before-returns-in_default t c = record {
-  trees = λ g. form_unlinked c.args.flag c.args.values.now (record { id = c.args.origin.id; place = c.args.origin.place }) c.args.op (trees_of c.args.args.items) (trees_of c.args.body.items) (link_trees c.args.following) (λ e. c.in_default.not-Case (c.form_kind.ensures ∙ ap (λ ns. form_kind c.args.op (trees_of ns) (trees_of c.deref-2.result.now)) c.deref.ensures.value ∙ ap (λ ns. form_kind c.args.op (trees_of c.args.args.items) (trees_of ns)) c.deref-2.ensures.value ∙ e));
-  places = not_case (form_kind c.args.op (trees_of c.args.args.items) (trees_of c.args.body.items)) c.args.origin.place (looped_places true c.args.body.items) (link_places c.args.following) (λ e. c.in_default.not-Case (c.form_kind.ensures ∙ ap (λ ns. form_kind c.args.op (trees_of ns) (trees_of c.deref-2.result.now)) c.deref.ensures.value ∙ ap (λ ns. form_kind c.args.op (trees_of c.args.args.items) (trees_of ns)) c.deref-2.ensures.value ∙ e));
-}
-
--- ---- a form
-
-pub put-returns-in_ok-put_form-in-Form-clause-trees : goal.put-returns-in_ok-put_form-in-Form-clause-trees
-put-returns-in_ok-put_form-in-Form-clause-trees t c g =
-    let same = form_is (record { id = c.args.node.id; place = c.args.node.place }) c.args.node.term c.in-Form.op c.in-Form.args c.in-Form.body c.in-Form.is in
-    c.in_ok-put_form-in-Form.ensures.trees (subst IsGiven same g) ∙ ap (λ tr. put_tree c.args.flag c.args.values.now c.args.inside tr (backwards c.args.made.now.items)) (sym same)
-
-pub put-returns-in_ok-put_form-in-Form-clause-places : goal.put-returns-in_ok-put_form-in-Form-clause-places
-put-returns-in_ok-put_form-in-Form-clause-places t c =
-    c.in_ok-put_form-in-Form.ensures.places ∙ ap (λ ps. ps ++ lowered_places (reverse c.args.made.now.items)) (form_placed c.args.inside c.args.node.place c.args.node.term c.in-Form.op c.in-Form.args c.in-Form.body c.in-Form.is)
-
-pub put-returns-in_ok-push-in_default-clause-trees : goal.put-returns-in_ok-push-in_default-clause-trees
-put-returns-in_ok-push-in_default-clause-trees t c g = flat_pushed c.args.flag c.args.values.now c.args.inside c.args.made.now.items c.push.new.self.items c.args.node c.in_default.not-Form c.in_ok-push-in_default.ensures.items
-
-pub put_form-only-requires : goal.put_form-only-requires
-put_form-only-requires t c = (switch_is c.args.op c.args.args.items c.args.body.items (sym (c.in-Switch.ensures ∙ ap (λ ns. form_kind c.args.op (trees_of ns) (trees_of c.deref-2.result.now)) c.deref.ensures.value ∙ ap (λ ns. form_kind c.args.op (trees_of c.args.args.items) (trees_of ns)) c.deref-2.ensures.value))).1
-
-pub put_form-returns-in_ok-put_switch-in-Switch-clause-trees : goal.put_form-returns-in_ok-put_switch-in-Switch-clause-trees
-put_form-returns-in_ok-put_switch-in-Switch-clause-trees t c g =
-    switch_put c.args.flag c.args.values.now c.args.inside (record { id = c.args.origin.id; place = c.args.origin.place }) c.args.op c.args.args.items c.args.body.items c.only.result (backwards c.put_switch.new.made.items) (backwards c.args.made.now.items)
-    (sym (c.in-Switch.ensures ∙ ap (λ ns. form_kind c.args.op (trees_of ns) (trees_of c.deref-2.result.now)) c.deref.ensures.value ∙ ap (λ ns. form_kind c.args.op (trees_of c.args.args.items) (trees_of ns)) c.deref-2.ensures.value)) c.only.ensures c.in_ok-put_switch-in-Switch.ensures.trees g
-
-pub put_form-returns-in_ok-push-in_default : goal.put_form-returns-in_ok-push-in_default
-put_form-returns-in_ok-push-in_default t c =
-    let no_switch = λ (e : form_kind c.args.op (trees_of c.args.args.items) (trees_of c.args.body.items) ≡ Kind.Switch). c.in_default.not-Switch (c.form_kind.ensures ∙ ap (λ ns. form_kind c.args.op (trees_of ns) (trees_of c.deref-2.result.now)) c.deref.ensures.value ∙ ap (λ ns. form_kind c.args.op (trees_of c.args.args.items) (trees_of ns)) c.deref-2.ensures.value ∙ e) in
-    let no_continue = λ (e : form_kind c.args.op (trees_of c.args.args.items) (trees_of c.args.body.items) ≡ Kind.Continue). c.in_default.not-Continue (c.form_kind.ensures ∙ ap (λ ns. form_kind c.args.op (trees_of ns) (trees_of c.deref-2.result.now)) c.deref.ensures.value ∙ ap (λ ns. form_kind c.args.op (trees_of c.args.args.items) (trees_of ns)) c.deref-2.ensures.value ∙ e) in
-    record {
-      trees = λ g. form_put c.args.flag c.args.values.now c.args.inside (record { id = c.args.origin.id; place = c.args.origin.place }) c.args.op c.args.args c.args.body c.in_ok-body-in_default.body _ c.args.made.now.items c.push.new.self.items no_switch no_continue refl refl c.in_ok-push-in_default.ensures.items c.in_ok-body-in_default.ensures.trees g;
-      places = kept_put c.args.inside c.args.op c.args.args c.args.body c.in_ok-body-in_default.body _ c.args.made.now.items c.push.new.self.items no_switch no_continue refl c.in_ok-push-in_default.ensures.items c.in_ok-body-in_default.ensures.places;
+form_before-returns-in_default t c =
+    let never : form_kind c.args.op (trees_of c.args.args.items) (trees_of c.args.body.items) ≡ TermRole.Case → ⊥ = λ e.
+    c.in_default.not-Case (c.form_kind.ensures ∙ ap (λ ns. form_kind c.args.op (trees_of ns) (trees_of c.deref-2.result.now)) c.deref.ensures.value ∙ ap (λ ns. form_kind c.args.op (trees_of c.args.args.items) (trees_of ns)) c.deref-2.ensures.value ∙ e) in record {
+      trees = λ g. form_unlinked c.args.flag c.args.values.now (record { id = c.args.origin.id; place = c.args.origin.place }) c.args.op (trees_of c.args.args.items) (trees_of c.args.body.items) (link_trees c.args.following) never;
+      places = not_case (form_kind c.args.op (trees_of c.args.args.items) (trees_of c.args.body.items)) c.args.origin.place (looped_places true c.args.body.items) (link_places c.args.following) never;
     }

@@ -1,4 +1,4 @@
-use Rattle.std.proofs.Common.{refl, arith, sym, ap, ◌∙◌}
+use Rattle.std.proofs.Common.{refl, sym, ap, ◌∙◌}
 use Rattle.std.specs.Prelude.{not}
 use Rattle.std.specs.List.{filter}
 use Rattle.switch_loops.specs.Kinds.{default_node}
@@ -16,5 +16,6 @@ loop-node-preserved-then-is_default c =
 
 pub loop-node-preserved : goal.loop-node-preserved
 loop-node-preserved c =
-    let h = split_case c.loop-node.left.items c.pop.new.self.items c.loop-node.cases.items c.push.new.self.items (filter (λ node. not (default_node node)) c.args.nodes.items) c.in-Some.node c.loop-node.default (first_default c.args.nodes.items) c.in-Some.ensures.items (sym c.is_default.ensures ∙ c.if-is_default.false) c.in_ok-push.ensures.items c.loop-node.invariant.cases c.loop-node.invariant.default in
+    let h =
+    split_case c.loop-node.left.items c.pop.new.self.items c.loop-node.cases.items c.push.new.self.items (filter (λ node. not (default_node node)) c.args.nodes.items) c.in-Some.node c.loop-node.default (first_default c.args.nodes.items) c.in-Some.ensures.items (sym c.is_default.ensures ∙ c.if-is_default.false) c.in_ok-push.ensures.items c.loop-node.invariant.cases c.loop-node.invariant.default in
     record { cases = h.0; default = h.1 }

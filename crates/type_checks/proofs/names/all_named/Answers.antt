@@ -9,7 +9,7 @@ use Rattle.name_kinds.specs.Facts.{Knows}
 use Rattle.name_kinds.proofs.Seeing.{block_seen}
 use Rattle.name_entries.specs.Placed.{no_places, placed_all}
 use Rattle.name_entries.specs.Uses.{denoted_in}
-use Rattle.name_entries.specs.declared.kind.Kind.TheVariants as N
+use Rattle.name_entries.specs.declared.kind.ObjectType.TheVariants as N
 use Rattle.type_checks.specs.Names.{kind_known}
 use Rattle.type_checks.proofs.Naming.{led, known_said}
 use Rattle.type_checks.proofs.names.all_named.Goals as goal

@@ -2,7 +2,7 @@ use Rattle.std.proofs.Common.{[], get_or, sym, ap, ◌∙◌}
 use Rattle.std.specs.Prelude.{if◌then◌else◌}
 use Rattle.acpi_names.specs.Errors.{final}
 use Rattle.name_entries.specs.Entries.{end_kind}
-use Rattle.name_entries.specs.declared.kind.Kind.TheVariants as N
+use Rattle.name_entries.specs.declared.kind.ObjectType.TheVariants as N
 use Rattle.type_checks.proofs.names.kind_there.Goals as goal
 
 pub returns-then-is_named_at : goal.returns-then-is_named_at

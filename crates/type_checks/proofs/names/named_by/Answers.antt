@@ -1,7 +1,7 @@
 use Rattle.std.proofs.Common.{sym, ap, ◌∙◌}
 use Rattle.acpi_state.specs.Outcomes.{choose}
 use Rattle.acpi_names.specs.Paths.{path_with}
-use Rattle.name_entries.specs.declared.kind.Kind.TheVariants as N
+use Rattle.name_entries.specs.declared.kind.ObjectType.TheVariants as N
 use Rattle.type_checks.specs.Names.{kind_known}
 use Rattle.type_checks.proofs.names.named_by.Goals as goal
 

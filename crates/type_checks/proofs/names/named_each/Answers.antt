@@ -1,5 +1,5 @@
 use Rattle.std.proofs.Common.{◌≡◌, ◌∷◌, [], ◌+◌, ℕ, length, length-append, get_or, sym, ap, ◌∙◌, subst, ◌<◌, arith}
-use Rattle.name_entries.specs.declared.kind.Kind.TheVariants as N
+use Rattle.name_entries.specs.declared.kind.ObjectType.TheVariants as N
 use Rattle.type_checks.specs.Names.{kind_known}
 use Rattle.type_checks.proofs.Naming.{led, named_more, named_all}
 use Rattle.type_checks.proofs.names.named_each.Goals as goal

@@ -7,7 +7,7 @@ use Rattle.named_sessions.specs.Shaped.{AreShaped}
 use Rattle.asl_lower.specs.Nests.{joined}
 use Rattle.asl_lower.proofs.Lowered.{popped_size}
 use Rattle.term_places.specs.Places.{places_of}
-use Rattle.wrapped_externals.specs.declared.kind.Kind.TheVariants as Kind
+use Rattle.wrapped_externals.specs.declared.kind.TermRole.TheVariants as Kind
 use Rattle.wrapped_externals.specs.Wraps.{in_if}
 use Rattle.wrapped_externals.specs.Starts.{with_ifs}
 use Rattle.wrapped_externals.proofs.Nodes.{each_none, each_next, each_all, next_external, next_branch, next_other, put_behind_trees, turned, turned_size, list_none, list_next, list_all, other_wrapped, call_wrapped, term_wrapped}

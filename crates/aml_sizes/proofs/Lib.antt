@@ -1,0 +1,14 @@
+pub mod Counted
+pub mod Letters
+pub mod FormLeaves
+pub mod FieldLists
+pub mod Forms
+pub mod Rows
+pub mod Weights
+pub mod PlainForms
+pub mod Joined
+pub mod NodePieces
+pub mod Rooms
+pub mod ElseIfs
+pub mod NotedLengths
+pub mod Encodings

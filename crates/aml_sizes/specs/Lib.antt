@@ -1,0 +1,13 @@
+pub mod Sizes
+pub mod Styles
+pub mod Leaves
+pub mod Codes
+pub mod Items
+pub mod TermBytes
+pub mod Capped
+pub mod Spaces
+pub mod PackageLengths
+pub mod Forms
+pub mod Pieces
+pub mod Rooms
+pub mod TableSizes

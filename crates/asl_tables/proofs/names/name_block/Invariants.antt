@@ -1,5 +1,0 @@
-use Rattle.asl_shape.specs.Plans.{plans_of}
-use Rattle.asl_tables.proofs.names.name_block.Given as goal
-
-abbrev pub ghost-named_terms : goal.ghost-named_terms
-ghost-named_terms a = plans_of a.terms.items

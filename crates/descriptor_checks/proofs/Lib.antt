@@ -1,0 +1,6 @@
+pub mod Following
+pub mod Placing
+pub mod Owning
+pub mod Telling
+pub mod Naming
+pub mod Senses

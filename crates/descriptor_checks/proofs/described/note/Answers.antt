@@ -1,0 +1,21 @@
+use Rattle.std.proofs.Common.{[], ◌++◌, get_or, sym, ◌∙◌, subst}
+use Rattle.acpi_state.specs.Objects.{lookup}
+use Rattle.acpi_names.specs.Shown.{shown, written_as}
+use Rattle.acpi_names.specs.Tables.{Tabled}
+use Rattle.descriptor_fields.specs.Nodes.{at_node}
+use Rattle.descriptor_checks.specs.Resolved.{described_by}
+use Rattle.descriptor_checks.proofs.Placing.{declares_none, declares_some}
+use Rattle.descriptor_checks.proofs.described.note.Goals as goal
+
+pub returns-in-Some-clause-noted : goal.returns-in-Some-clause-noted
+returns-in-Some-clause-noted g c said before says tabled =
+    let paths = c.args.index.now.paths in
+    subst (λ m. Tabled paths c.note_at.new.table.items (lookup (before ++ described_by said (shown paths m)))) (sym c.in-Declares.is)
+    (declares_some paths c.note_at.new.table.items before (written_as c.in-Declares.name) (get_or paths c.in-Declares.scope []) _ c.in-Some.descriptor (at_node said c.in-Declares.at.id) (c.in-Some.ensures ∙ says c.in-Declares.at.id) c.declared_at-number.ensures.path
+    (c.note_at.ensures.noted before tabled))
+
+pub returns-in-None-clause-noted : goal.returns-in-None-clause-noted
+returns-in-None-clause-noted g c said before says tabled =
+    let paths = c.args.index.now.paths in
+    subst (λ m. Tabled paths c.args.table.now.items (lookup (before ++ described_by said (shown paths m)))) (sym c.in-Declares.is)
+    (declares_none paths c.args.table.now.items before (written_as c.in-Declares.name) (get_or paths c.in-Declares.scope []) (at_node said c.in-Declares.at.id) (c.in-None.ensures ∙ says c.in-Declares.at.id) tabled)

@@ -1,0 +1,5 @@
+pub mod Declaring
+pub mod Values
+pub mod Nodes
+pub mod Constants
+pub mod Shown

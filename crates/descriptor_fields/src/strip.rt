@@ -1,0 +1,141 @@
+//! Terms without those that declare descriptors.
+ghost use Rattle.std.specs.Prelude.{◌≡◌, OnOk, IfOk};
+ghost use Rattle.asl_shape.specs.Plans.{plan_of, plans_of, plan_at, join};
+ghost use Rattle.asl_shape.specs.Descriptors as fills;
+ghost use Rattle.descriptor_fields.specs.Declaring as spec;
+
+use crate::declare::{has_terms, push};
+use asl_tree::term::{Declaration, NamedDescriptor, Node, Op, Term};
+use std::alloc::{AllocError, Global};
+
+// The descriptors that have names in some bytes.
+#[tactic(auto, using(crate::proofs::Terms::named_rules))]
+fn named_of(term: &Term) -> &[NamedDescriptor]
+    ensures { result.now ≡ fills.named_of (plan_of term.now) }
+{
+    match term {
+        Term::Fill { named, .. } => named.as_slice(),
+        Term::Form { .. } => &[],
+        Term::Integer(_) => &[],
+        Term::Text(_) => &[],
+        Term::Word(_) => &[],
+        Term::Local(_) => &[],
+        Term::Arg(_) => &[],
+        Term::Debug => &[],
+        Term::Omitted => &[],
+        Term::Name(_) => &[],
+        Term::Unit { .. } => &[],
+        Term::Skip(_) => &[],
+        Term::Offset(_) => &[],
+        Term::Access { .. } => &[],
+        Term::Call { .. } => &[],
+    }
+}
+
+fn is_naming(op: Op) -> bool
+    ensures { result ≡ spec.is_naming op }
+{
+    matches!(op, Op::Declaration(Declaration::Name))
+}
+
+// The descriptor that the value of a name is.
+#[tactic(auto, using(crate::proofs::Terms::value_some, crate::proofs::Terms::value_none))]
+fn value_of(args: &[Node]) -> &[NamedDescriptor]
+    ensures { result.now ≡ fills.named_of (plan_at (plans_of args.now) 1) }
+{
+    match args.get(1) {
+        Some(value) => named_of(&value.term),
+        None => &[],
+    }
+}
+
+/// The descriptor that a term declares.
+#[tactic(auto, using(crate::proofs::Terms::declared_rules))]
+pub(crate) fn declared_by(term: &Term) -> &[NamedDescriptor]
+    ensures { result.now ≡ spec.declared_by (plan_of term.now) }
+{
+    match term {
+        Term::Form { op, args, .. } => { if is_naming(*op) { value_of(args) } else { &[] } }
+        Term::Fill { .. } => &[],
+        Term::Integer(_) => &[],
+        Term::Text(_) => &[],
+        Term::Word(_) => &[],
+        Term::Local(_) => &[],
+        Term::Arg(_) => &[],
+        Term::Debug => &[],
+        Term::Omitted => &[],
+        Term::Name(_) => &[],
+        Term::Unit { .. } => &[],
+        Term::Skip(_) => &[],
+        Term::Offset(_) => &[],
+        Term::Access { .. } => &[],
+        Term::Call { .. } => &[],
+    }
+}
+
+// A term without such terms in it.
+#[cycle(strip)]
+#[tactic(auto, using(crate::proofs::Terms::closed_rules))]
+fn close(alloc: Global, term: Term) -> Result<Term, AllocError>
+    ensures { IfOk result (λ made. plan_of made ≡ spec.closed (plan_of term)) }
+{
+    match term {
+        Term::Form { op, args, body } => {
+            if has_terms(op) {
+                let body = stripped(alloc, body)?;
+                return Ok(Term::Form { op, args, body });
+            }
+            Ok(Term::Form { op, args, body })
+        }
+        Term::Integer(number) => Ok(Term::Integer(number)),
+        Term::Text(text) => Ok(Term::Text(text)),
+        Term::Fill { bytes, named } => Ok(Term::Fill { bytes, named }),
+        Term::Word(word) => Ok(Term::Word(word)),
+        Term::Local(index) => Ok(Term::Local(index)),
+        Term::Arg(index) => Ok(Term::Arg(index)),
+        Term::Debug => Ok(Term::Debug),
+        Term::Omitted => Ok(Term::Omitted),
+        Term::Name(path) => Ok(Term::Name(path)),
+        Term::Unit { segment, bits } => Ok(Term::Unit { segment, bits }),
+        Term::Skip(bits) => Ok(Term::Skip(bits)),
+        Term::Offset(bytes) => Ok(Term::Offset(bytes)),
+        Term::Access {
+            access,
+            attribute,
+            length,
+        } => Ok(Term::Access {
+            access,
+            attribute,
+            length,
+        }),
+        Term::Call { path, args } => Ok(Term::Call { path, args }),
+    }
+}
+
+// Adds a term, unless it declares a descriptor.
+#[cycle(strip)]
+#[tactic(auto, using(crate::proofs::Terms::unless_none, crate::proofs::Terms::unless_some, asl_shape::proofs::Settled::join_nothing))]
+fn add_term(alloc: Global, out: &mut Vec<Node>, node: Node) -> Result<(), AllocError>
+    ensures { OnOk result (plans_of out.new.items ≡ join (plans_of out.old.items) (spec.kept node.place (plan_of node.term))) }
+{
+    if !declared_by(&node.term).is_empty() {
+        return Ok(());
+    }
+    let Node { place, term, .. } = node;
+    push(out, place, close(alloc, term)?)?;
+    Ok(())
+}
+
+/// Terms without those that declare descriptors. The nodes have no numbers then.
+#[cycle(strip)]
+pub fn stripped(alloc: Global, nodes: Vec<Node>) -> Result<Vec<Node>, AllocError>
+    ensures { IfOk result (λ made. plans_of made.items ≡ spec.stripped (plans_of nodes.items)) }
+{
+    let mut left = nodes;
+    left.reverse();
+    let mut out = Vec::new(alloc);
+    while let Some(node) = left.pop() {
+        add_term(alloc, &mut out, node)?;
+    }
+    Ok(out)
+}

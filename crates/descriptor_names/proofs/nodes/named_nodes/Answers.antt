@@ -1,5 +1,0 @@
-use Rattle.std.proofs.Common.{None, [], get_or, ap}
-use Rattle.descriptor_names.proofs.nodes.named_nodes.Goals as goal
-
-pub returns : goal.returns
-returns c = c.in_ok-name_all.ensures.named [] (λ node. ap (λ xs. get_or xs node None) c.new-named.ensures.items)

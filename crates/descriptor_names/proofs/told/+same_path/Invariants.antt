@@ -1,4 +1,0 @@
-use Rattle.descriptor_names.proofs.told.+same_path.Given as goal
-
-abbrev pub decreases-same_path : goal.decreases-same_path
-decreases-same_path l = l.number

@@ -1,9 +1,0 @@
-pub mod Declaring
-pub mod Senses
-pub mod Values
-pub mod Resolved
-pub mod Nodes
-pub mod Told
-pub mod Fields
-pub mod Shown
-pub mod Resolves

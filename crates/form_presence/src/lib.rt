@@ -1,0 +1,4 @@
+//! Which forms stand in a program.
+#![tactic(auto)]
+
+pub mod present;
