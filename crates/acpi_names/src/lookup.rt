@@ -122,7 +122,7 @@ pub fn from_root(alloc: Global, paths: &Paths, number: usize) -> Result<Path, Al
         around = below.0;
     }
     segs.reverse();
-    let segs = Segs::from_vec(segs);
+    let segs = Segs::from_vec(alloc, segs)?;
     Ok(Path {
         root: true,
         up: 0,

@@ -29,10 +29,6 @@ pub record IsFolded (width : Width) (part : MemberRole) (old now : Node) : Type 
   pub is : node_tree now ≡ folded_as width part (node_tree old)
   pub places : term_places now ≡ term_places old
 
--- a member that is folded as what it is
-pub member_folded : (width : Width) (part : ℕ → MemberRole) (k : ℕ) (what : MemberRole) (old now : Node) → what ≡ part k → node_tree now ≡ folded_as width what (node_tree old) → term_places now ≡ term_places old → IsFolded width (part k) old now
-member_folded width part k what old now e is places = record { is = is ∙ ap (λ p. folded_as width p (node_tree old)) e; places = places }
-
 trees_folded : (width : Width) (part : ℕ → MemberRole) (old now : List Node) → length now ≡ length old → ((k : ℕ) → k < length old → (e : Node) → IsFolded width (part k) (get_or old k e) (get_or now k e)) → trees_of now ≡ folded_by width part (trees_of old)
 unfolding trees_of
 trees_folded width part [] [] size h = refl
@@ -92,6 +88,12 @@ other_folded width statement at t not_call not_form = flat_folded width statemen
     by_layer (D.Term-F.Skip n) e = ap is_flat (e ∙ V.rolls-Skip n)
     by_layer (D.Term-F.Offset n) e = ap is_flat (e ∙ V.rolls-Offset n)
     by_layer (D.Term-F.Access access attribute count) e = ap is_flat (e ∙ V.rolls-Access access attribute count)
+
+-- and so it does whatever member of a list it is
+pub leaf_folded : (width : Width) (what : MemberRole) (at : At) (t : Term) → ((p : Path) (v : Vec Node Global) → t ≡ D.Call p v → ⊥) → ((o : Op) (v w : Vec Node Global) → t ≡ D.Form o v w → ⊥) → tree_of at t ≡ folded_as width what (tree_of at t)
+leaf_folded width MemberRole.Kept at t not_call not_form = refl
+leaf_folded width MemberRole.Operand at t not_call not_form = other_folded width false at t not_call not_form
+leaf_folded width MemberRole.Statement at t not_call not_form = other_folded width true at t not_call not_form
 
 pub call_folded : (width : Width) (statement : Bool) (at : At) (t : Term) (path : Path) (args made : Vec Node Global) → t ≡ D.Call path args → trees_of made.items ≡ folded_by width (part_in Listing.Elements) (trees_of args.items)
     → tree_of at (D.Call path made) ≡ folded width statement (tree_of at t)

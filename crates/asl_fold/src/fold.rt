@@ -104,9 +104,30 @@ fn fold_nodes(
         return Ok(());
     }
     for (index, node) in nodes.iter_mut().enumerate() {
-        fold_part(alloc, width, part_of(listing, index), node)?;
+        fold_member(alloc, width, listing, index, node)?;
     }
     Ok(())
+}
+
+// The member of a list at a place. What has no members stays, whatever it is.
+#[cycle(fold)]
+fn fold_member(
+    alloc: Global,
+    width: Width,
+    listing: Listing,
+    index: usize,
+    node: &mut Node,
+) -> Result<(), AllocError>
+    ensures tree { OnOk result (node_tree node.new ≡ folded_as width (part_in listing index) (node_tree node.old)) }
+    ensures places { OnOk result (term_places node.new ≡ term_places node.old) }
+{
+    match &node.term {
+        Term::Call { .. } | Term::Form { .. } => {
+            fold_part(alloc, width, part_of(listing, index), node)?;
+            Ok(())
+        }
+        _ => Ok(()),
+    }
 }
 
 #[cycle(fold)]

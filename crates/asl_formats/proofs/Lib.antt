@@ -14,7 +14,6 @@ pub mod StandForms
 pub mod Standing
 pub mod Programs
 pub mod PlanPrograms
-pub mod Asked
 pub mod Formless
 pub mod Declared
 pub mod Sources

@@ -3,7 +3,6 @@
 
 pub mod for_loop;
 mod plain;
-pub mod present;
 pub mod program;
 mod renew;
 pub mod stand;

@@ -4,7 +4,7 @@ ghost use Rattle.acpi_names.specs.Walked.{node_tree};
 ghost use Rattle.asl_tree.specs.Tree.{At};
 ghost use Rattle.asl_tree.specs.View.{tree_of, trees_of};
 
-use asl_tree::path::Path;
+use asl_tree::path::{Path, Segs};
 use asl_tree::term::{NamedDescriptor, Node, Term};
 use iasl_ports::list::{List, Text};
 use std::alloc::{AllocError, Global};
@@ -12,11 +12,11 @@ use std::alloc::{AllocError, Global};
 fn copied_path(alloc: Global, path: &Path) -> Result<Path, AllocError>
     ensures { IfOk result (λ copy. copy ≡ path.now) }
 {
-    let segs = path.segs.as_slice().to_vec(alloc)?;
+    let segs = Segs::from_slice(alloc, path.segs.as_slice())?;
     Ok(Path {
         root: path.root,
         up: path.up,
-        segs: List::from_vec(segs),
+        segs,
     })
 }
 

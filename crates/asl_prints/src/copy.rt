@@ -7,7 +7,7 @@ ghost use Rattle.asl_shape.specs.Plans.{plan_of, plans_of};
 ghost use Rattle.asl_prints.specs.Numbers.{numbers_in, numbers_of};
 ghost use Rattle.asl_prints.specs.PlanParts.{placed};
 
-use asl_tree::path::Path;
+use asl_tree::path::{Path, Segs};
 use asl_tree::term::{NamedDescriptor, Node, Term};
 use iasl_ports::list::{List, Text};
 use std::alloc::{AllocError, Global};
@@ -16,11 +16,11 @@ use std::alloc::{AllocError, Global};
 pub fn copied_path(alloc: Global, path: &Path) -> Result<Path, AllocError>
     ensures { IfOk result (λ copy. copy ≡ path.now) }
 {
-    let segs = path.segs.as_slice().to_vec(alloc)?;
+    let segs = Segs::from_slice(alloc, path.segs.as_slice())?;
     Ok(Path {
         root: path.root,
         up: path.up,
-        segs: List::from_vec(segs),
+        segs,
     })
 }
 

@@ -68,3 +68,33 @@ pub fn symbol_of(symbol: Infix) -> Op
         Infix::XorAssign => assign_by!(Compound::Xor),
     }
 }
+
+// How many targets an operator that is written with a symbol has behind its operands once it is named.
+fn targets_of(op: Op) -> usize {
+    match op {
+        Op::Symbolic(Symbolic::Operator(Plain::Number(op))) => match op {
+            IntOp::Add
+            | IntOp::Subtract
+            | IntOp::Multiply
+            | IntOp::Mod
+            | IntOp::ShiftLeft
+            | IntOp::ShiftRight
+            | IntOp::And
+            | IntOp::Or
+            | IntOp::Xor
+            | IntOp::Not => 1,
+            IntOp::Divide => 2,
+            _ => 0,
+        },
+        Op::Symbolic(Symbolic::Operator(Plain::Data(DataOp::Index))) => 1,
+        Op::Symbolic(Symbolic::AssignBy(Compound::Divide)) => 2,
+        Op::Symbolic(Symbolic::AssignBy(_)) => 1,
+        _ => 0,
+    }
+}
+
+/// For how many arguments of a form room is taken, which has so many parameters and is given so many arguments: with those are its
+/// targets. Only how much memory is taken at once rests on this.
+pub fn room_for(op: Op, parameters: usize, given: usize) -> usize {
+    parameters.min(given.max(8)).saturating_add(targets_of(op))
+}

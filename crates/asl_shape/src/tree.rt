@@ -21,7 +21,7 @@ use crate::lists::{
 use crate::macros::first_term;
 use crate::resources;
 use crate::settle::{add_missing, arrange, number_in, push, settle};
-use crate::symbol::symbol_of;
+use crate::symbol::{room_for, symbol_of};
 use crate::work::{NOWHERE, Work, evaluate, is_evaluated, refuse, tell};
 use asl_parser::{Raw, Raws};
 use asl_tree::term::{Node, Op, Term};
@@ -32,7 +32,6 @@ use asl_words::parameters::{
 };
 use asl_words::paths::path_of;
 use asl_words::resources::{descriptor_body, descriptor_parameters};
-use iasl_messages::message::{Messages, Stage};
 use iasl_messages::number::{VALUE_OUT_OF_RANGE, WRONG_ARGUMENT_FORM};
 use iasl_messages::place::Place;
 use iasl_ports::list::Text;
@@ -432,13 +431,12 @@ fn form(
         (work.new.faults.items ≡ work.old.faults.items
         ++ (spec.form_shape inside.width op place (at.arguments_in_at (table.parameters_as op slot) place inside args.now)
         (at.contents_at (table.body_as op slot) (spec.within op inside) place body.now)).faults) }
-    ensures made { IfOk result
-        (λ term. plan_of term ≡
+    ensures made { IfOk result (λ term. plan_of term ≡
         (spec.form_shape inside.width op place (at.arguments_in_at (table.parameters_as op slot) place inside args.now)
         (at.contents_at (table.body_as op slot) (spec.within op inside) place body.now)).made) }
 {
     let parameters = parameters_as(op, slot);
-    let mut nodes = Vec::with_capacity(alloc, parameters.len().min(args.len().max(8)))?;
+    let mut nodes = Vec::with_capacity(alloc, room_for(op, parameters.len(), args.len()))?;
     arguments(alloc, work, &mut nodes, parameters, inside, place, args)?;
     count_arguments(alloc, work, op, place, &nodes)?;
     settle(alloc, inside.width, op, place, &mut nodes)?;

@@ -1,3 +1,4 @@
+pub mod Segments
 pub mod Literals
 pub mod Names
 pub mod FieldItems

@@ -79,24 +79,18 @@ fn one_segment(alloc: Global, text: &[u8]) -> Result<Option<Segs>, AllocError>
     let Some(segment) = segment_of(text) else {
         return Ok(None);
     };
-    let mut segs = Segs::new(alloc);
-    segs.push(segment)?;
-    Ok(Some(segs))
+    Ok(Some(Segs::one(segment)))
 }
 
-fn with_first(segment: NameSeg, others: Segs) -> Result<Segs, AllocError>
-    ensures { IfOk result (λ segments. segments ≡ segment ∷ others) }
-{
-    let mut items = others.into_vec();
-    items.insert(0, segment)?;
-    Ok(Segs::from_vec(items))
-}
-
-fn behind_segment(segment: NameSeg, others: Option<Segs>) -> Result<Option<Segs>, AllocError>
+fn behind_segment(
+    alloc: Global,
+    segment: NameSeg,
+    others: Option<Segs>,
+) -> Result<Option<Segs>, AllocError>
     ensures { IfOk result (λ segments. segments ≡ Paths.behind_segment segment others) }
 {
     match others {
-        Some(others) => Ok(Some(with_first(segment, others)?)),
+        Some(others) => Ok(Some(Segs::with_first(alloc, segment, &others)?)),
         None => Ok(None),
     }
 }
@@ -116,7 +110,7 @@ fn segments_in(alloc: Global, most: u8, text: &[u8]) -> Result<Option<Segs>, All
         return Ok(None);
     };
     let others = segments_in(alloc, most - 1, &text[dot + 1..])?;
-    behind_segment(segment, others)
+    behind_segment(alloc, segment, others)
 }
 
 // What stands behind a prefix: nothing, or at most 255 segments.
@@ -126,7 +120,7 @@ fn rest_segments(alloc: Global, text: &[u8]) -> Result<Option<Segs>, AllocError>
 {
     match parts(text) {
         Some(_) => segments_in(alloc, 255, text),
-        None => Ok(Some(Segs::new(alloc))),
+        None => Ok(Some(Segs::none())),
     }
 }
 

@@ -1,6 +1,7 @@
 mod of_descriptor_checks;
 mod of_field_checks;
 mod of_form_counts;
+mod of_region_checks;
 mod of_statement_checks;
 mod of_switch_checks;
 mod of_type_checks;

@@ -1,6 +1,5 @@
 -- What mentions come to, one after another.
-use Rattle.std.proofs.Common.{◌≡◌, ℕ, ◌+◌, ◌<◌, ◌≤◌, Bool, true, false, length, get_or, take, List, [], ◌∷◌, ◌++◌, append-nil, append_assoc, refl, sym, ap, ◌∙◌, arith}
-use Rattle.std.specs.Prelude.{filter, if◌then◌else◌}
+use Rattle.std.proofs.Common.{◌≡◌, ℕ, ◌+◌, ◌<◌, ◌≤◌, length, get_or, take, List, [], ◌∷◌, ◌++◌, append-nil, append_assoc, refl, sym, ap, ◌∙◌, arith}
 use Rattle.std.proofs.lemmas.List.{take_all, length-map}
 use Rattle.acpi_values.specs.Paths.{AbsolutePath}
 use Rattle.acpi_names.specs.Mentions as M
@@ -21,13 +20,6 @@ module _ {B : Type 0} (all : List M.Mention → List B) (each : M.Mention → Li
 pub taken_all : (paths : List AbsolutePath) (mentions : List Mention) (i : ℕ) → length mentions ≤ i → take i (all_shown paths mentions) ≡ all_shown paths mentions
 taken_all paths mentions i le = take_all i (all_shown paths mentions) (omega (arith, le, length-map mentions (shown paths)))
 
--- those that are kept
-abbrev pub kept : (M.Mention → Bool) → M.Mention → List M.Mention
-kept test m = if test m then m ∷ [] else []
-
-pub kept_more : (test : M.Mention → Bool) (m : M.Mention) (ms : List M.Mention) → filter test (m ∷ ms) ≡ kept test m ++ filter test ms
-kept_more test m ms = by_test (test m) refl
-  where
-    by_test : (c : Bool) → test m ≡ c → filter test (m ∷ ms) ≡ (if c then m ∷ [] else []) ++ filter test ms
-    by_test true e = grind (arith, e)
-    by_test false e = grind (arith, e)
+pub none_taken : {A : Type 0} (xs : List A) → take 0 xs ≡ []
+none_taken {A} [] = refl
+none_taken {A} (x ∷ xs) = refl

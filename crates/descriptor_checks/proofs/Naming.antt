@@ -7,21 +7,25 @@ use Rattle.acpi_state.specs.Objects.{lookup}
 use Rattle.iasl_messages.specs.declared.message.Message.{Message}
 use Rattle.asl_tree.specs.Tree.{Trees}
 use Rattle.asl_tree.specs.declared.term.NamedDescriptor.{NamedDescriptor}
-use Rattle.asl_meaning.specs.Declarations.{is_named, nothing_declared, declarations}
+use Rattle.asl_meaning.specs.Declarations.{Declarations, is_named, nothing_declared, declarations}
 use Rattle.asl_numbers.specs.Numbers.{numbered_all}
 use Rattle.asl_shape.specs.Plans.{Plans}
 use Rattle.acpi_names.specs.Errors.{whole_of}
 use Rattle.acpi_names.specs.Mentions.{Mention, after_all, all_errors, all_types, block_mentions}
 use Rattle.acpi_names.specs.Parts.{Agrees}
+use Rattle.acpi_names.specs.Shown.{all_shown}
 use Rattle.acpi_names.specs.Tables.{Tabled}
+use Rattle.acpi_names.specs.declared.mention.Mention.{Mention as CodeMention}
 use Rattle.acpi_names.specs.Terms.{are_terms}
 use Rattle.acpi_names.proofs.Mentions.{after_block}
 use Rattle.name_checks.specs.Messages.{message_of}
 use Rattle.name_kinds.specs.Seen.{seen}
 use Rattle.name_kinds.proofs.Seeing.{block_seen}
 use Rattle.descriptor_fields.specs.Nodes.{named_from}
+use Rattle.descriptor_checks.specs.Fields.{AreSorted}
 use Rattle.descriptor_checks.specs.Resolved.{described, mentions_of, names_of, table_of}
 use Rattle.descriptor_checks.specs.Told.{all_below, all_use_faults, is_no_field, is_of_no_descriptor, kinds_wrong, names_wrong}
+use Rattle.descriptor_checks.specs.declared.told.Sorted.{Sorted}
 
 -- the names of a block are those that its mentions declare
 pub declared_seen : (paths : List AbsolutePath) (named : List Bool) (trees : Trees) (ms : List Mention) → Agrees paths named (declarations trees) → ms ≡ block_mentions trees [] nothing_declared → Agrees paths named (after_all ms nothing_declared)
@@ -38,8 +42,13 @@ mentions_are trees ps ms numbers told = told ∙ ap (λ ts. block_mentions ts []
 pub names_are : (paths : List AbsolutePath) (named : List Bool) (trees : Trees) (ps : Plans) → trees ≡ numbered_all 0 ps → Agrees paths named (declarations trees) → Agrees paths named (declarations (numbered_all 0 ps))
 names_are paths named trees ps numbers names = subst (λ ts. Agrees paths named (declarations ts)) numbers names
 
-pub known_names : (paths : List AbsolutePath) (named : List Bool) (trees : Trees) (ps : Plans) → trees ≡ numbered_all 0 ps → Agrees paths named (after_all (block_mentions trees [] nothing_declared) nothing_declared) → Agrees paths named (declarations (numbered_all 0 ps))
-known_names paths named trees ps numbers names = names_are paths named trees ps numbers (seen_declared paths named trees names)
+-- the mentions of terms by what they denote
+pub sorted_is : (paths : List AbsolutePath) (named : List Bool) (trees : Trees) (ps : Plans) (table : List (Option NamedDescriptor)) (lent mentions : List CodeMention) (sorted : Sorted) → trees ≡ numbered_all 0 ps → Agrees paths named (after_all (block_mentions trees [] nothing_declared) nothing_declared)
+    → all_shown paths mentions ≡ block_mentions trees [] nothing_declared → lent ≡ mentions → Tabled paths table (table_of ps)
+    → ((d : Declarations) (look : AbsolutePath → Option NamedDescriptor) → Agrees paths named d → Tabled paths table look → AreSorted paths (is_named d) look sorted (all_shown paths lent)) → AreSorted paths (names_of ps) (table_of ps) sorted (mentions_of ps)
+sorted_is paths named trees ps table lent mentions sorted numbers names told same tabled are =
+    subst (AreSorted paths (names_of ps) (table_of ps) sorted) (ap (all_shown paths) same ∙ mentions_are trees ps (all_shown paths mentions) numbers told)
+    (are (declarations (numbered_all 0 ps)) (table_of ps) (names_are paths named trees ps numbers (seen_declared paths named trees names)) tabled)
 
 pub table_is : (paths : List AbsolutePath) (table : List (Option NamedDescriptor)) (ps : Plans) (ms : List Mention) → ms ≡ mentions_of ps → Tabled paths table (lookup (described (named_from 0 ps) ms)) → Tabled paths table (table_of ps)
 table_is paths table ps ms e tabled = subst (λ ms. Tabled paths table (lookup (described (named_from 0 ps) ms))) e tabled

@@ -1,44 +1,47 @@
 -- The descriptors of a block in a table by the numbers of paths.
-use Rattle.std.proofs.Common.{◌≡◌, ℕ, ◌<◌, Bool, true, false, List, [], ◌∷◌, ◌++◌, length, get_or, set, append-nil, Option, Some, None, refl, sym, ap, ◌∙◌, subst}
-use Rattle.std.specs.Prelude.{if◌then◌else◌}
+use Rattle.std.proofs.Common.{◌≡◌, ℕ, ◌<◌, Bool, true, false, List, [], ◌∷◌, ◌++◌, length, get_or, append-nil, Option, Some, None, refl, sym, ap, ◌∙◌, subst, arith}
+use Rattle.std.specs.Prelude.{nat_eq, if◌then◌else◌}
+use Rattle.std.proofs.lemmas.List.{get_or_past}
 use Rattle.acpi_values.specs.Paths.{AbsolutePath, is_same_path}
 use Rattle.acpi_state.specs.Objects.{lookup}
 use Rattle.acpi_state.specs.Outcomes.{choose}
 use Rattle.acpi_state.proofs.Lookups.{is_same_path-true}
 use Rattle.acpi_names.specs.Paths.{number_in, AreDistinct}
 use Rattle.acpi_names.specs.Tables.{entry_at, Tabled}
+use Rattle.acpi_names.proofs.Closed.{own_number, number_within}
+use Rattle.acpi_names.proofs.Numbers.{same_places, number_at}
 use Rattle.asl_tree.specs.Names.{declared_path}
 use Rattle.asl_tree.specs.declared.path.Path.{Path}
 use Rattle.asl_tree.specs.declared.term.NamedDescriptor.{NamedDescriptor}
-use Rattle.name_kinds.proofs.Entries.{entry_set, entry_here}
 use Rattle.name_kinds.proofs.Lookups.{lookup_append}
+use Rattle.descriptor_fields.specs.Nodes.{IsPut}
 
-or_none : {A : Type 0} (o : Option A) → o ≡ choose o None Some
-or_none None = refl
-or_none (Some x) = refl
-
--- the first entry of a path
-pub first_noted : (paths : List AbsolutePath) (table : List (Option NamedDescriptor)) (n : ℕ) (named : NamedDescriptor) (before : List (AbsolutePath × NamedDescriptor)) → AreDistinct paths → n < length paths → length table ≡ length paths → get_or table n None ≡ None → Tabled paths table (lookup before) → Tabled paths (set table n (Some named)) (lookup (before ++ (get_or paths n [], named) ∷ []))
-first_noted paths table n named before distinct lt size none tabled path =
-    entry_set paths table n named distinct lt size path ∙ by_same (is_same_path (get_or paths n []) path) refl ∙ sym (lookup_append before ((get_or paths n [], named) ∷ []) path)
+-- nothing is noted yet
+pub none_noted : (paths : List AbsolutePath) (table : List (Option NamedDescriptor)) → table ≡ [] → Tabled paths table (lookup [])
+none_noted paths table e path = ap (λ t. entry_at t (number_in paths path)) e ∙ no_entry (number_in paths path)
   where
-    by_same : (c : Bool) → is_same_path (get_or paths n []) path ≡ c → (if c then Some named else entry_at table (number_in paths path)) ≡ choose (lookup before path) (if c then Some named else None) Some
-    by_same true e =
-        let here : lookup before path ≡ None = ap (lookup before) (sym (is_same_path-true (get_or paths n []) path e)) ∙ sym (tabled (get_or paths n [])) ∙ entry_here paths table n distinct lt ∙ none in
-        sym (ap (λ o. choose o (Some named) Some) here)
-    by_same false e = tabled path ∙ or_none (lookup before path)
+    no_entry : (o : Option ℕ) → entry_at {A = NamedDescriptor} [] o ≡ None
+    no_entry None = refl
+    no_entry (Some n) = get_or_past [] n None (omega arith)
 
--- a later one
-pub later_noted : (paths : List AbsolutePath) (table : List (Option NamedDescriptor)) (n : ℕ) (named first : NamedDescriptor) (before : List (AbsolutePath × NamedDescriptor)) → AreDistinct paths → n < length paths → get_or table n None ≡ Some first → Tabled paths table (lookup before) → Tabled paths table (lookup (before ++ (get_or paths n [], named) ∷ []))
-later_noted paths table n named first before distinct lt some tabled path = by_same (is_same_path (get_or paths n []) path) refl ∙ sym (lookup_append before ((get_or paths n [], named) ∷ []) path)
+abbrev noted_if : NamedDescriptor → Bool → Option NamedDescriptor
+noted_if named c = if c then Some named else None
+
+-- a descriptor at its path, of which the first counts
+pub more_noted : (paths : List AbsolutePath) (old new : List (Option NamedDescriptor)) (n : ℕ) (named : NamedDescriptor) (before : List (AbsolutePath × NamedDescriptor)) → AreDistinct paths → n < length paths → IsPut old new n named → Tabled paths old (lookup before) → Tabled paths new (lookup (before ++ (get_or paths n [], named) ∷ []))
+more_noted paths old new n named before distinct lt is tabled path = by_number (number_in paths path) refl ∙ sym (lookup_append before ((get_or paths n [], named) ∷ []) path)
   where
-    by_same : (c : Bool) → is_same_path (get_or paths n []) path ≡ c → entry_at table (number_in paths path) ≡ choose (lookup before path) (if c then Some named else None) Some
-    by_same true e =
-        let same = is_same_path-true (get_or paths n []) path e in
-        let there : entry_at table (number_in paths path) ≡ Some first = ap (λ p. entry_at table (number_in paths p)) (sym same) ∙ entry_here paths table n distinct lt ∙ some in
-        let here : lookup before path ≡ Some first = sym (tabled path) ∙ there in
-        there ∙ sym (ap (λ o. choose o (Some named) Some) here)
-    by_same false e = tabled path ∙ or_none (lookup before path)
+    other : (c : Bool) → is_same_path (get_or paths n []) path ≡ c → number_in paths path ≡ None → noted_if named (is_same_path (get_or paths n []) path) ≡ None
+    other true c h = absurd (let x = sym (own_number paths n distinct lt) ∙ ap (number_in paths) (is_same_path-true (get_or paths n []) path c) ∙ h in grind arith)
+    other false c h = ap (noted_if named) c
+
+    by_number : (o : Option ℕ) → number_in paths path ≡ o → entry_at new (number_in paths path) ≡ choose (lookup before path) (noted_if named (is_same_path (get_or paths n []) path)) Some
+    by_number None h =
+        ap (entry_at new) h
+        ∙ sym (ap (λ o. choose o (noted_if named (is_same_path (get_or paths n []) path)) Some) (sym (tabled path) ∙ ap (entry_at old) h) ∙ other (is_same_path (get_or paths n []) path) refl h)
+    by_number (Some m) h =
+        ap (entry_at new) h ∙ is m ∙ ap (λ o. choose o (noted_if named (nat_eq n m)) Some) (sym (ap (entry_at old) h) ∙ tabled path)
+        ∙ ap (λ c. choose (lookup before path) (noted_if named c) Some) (sym (ap (is_same_path (get_or paths n [])) (sym (number_at paths path m h)) ∙ same_places paths n m distinct lt (number_within paths path m h)))
 
 -- ---- the descriptor that a mention declares
 

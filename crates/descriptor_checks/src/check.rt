@@ -1,33 +1,24 @@
 //! The names of a block's descriptors, resolved, and what is told of the names of the block.
-ghost use Rattle.std.specs.Prelude.{◌≡◌, [], map, true, IfOk};
+ghost use Rattle.std.specs.Prelude.{◌≡◌, true, IfOk};
 ghost use Rattle.asl_tree.specs.View.{trees_of};
-ghost use Rattle.asl_meaning.specs.Declarations.{declarations, nothing_declared};
 ghost use Rattle.asl_numbers.specs.Numbers.{numbered_all};
 ghost use Rattle.asl_shape.specs.Plans.{Plans, plans_of};
-ghost use Rattle.acpi_names.specs.Errors.{Whole};
-ghost use Rattle.acpi_names.specs.Mentions.{block_mentions};
-ghost use Rattle.acpi_names.specs.Parts.{Agrees};
-ghost use Rattle.acpi_names.specs.Shown.{all_shown};
 ghost use Rattle.acpi_names.specs.Tables.{Tabled};
 ghost use Rattle.acpi_names.specs.Terms.{are_terms};
-ghost use Rattle.name_checks.specs.Messages.{message_of};
 ghost use Rattle.name_kinds.specs.Known.{KnowsItsTerms};
-ghost use Rattle.name_kinds.specs.Seen.{seen};
 ghost use Rattle.descriptor_fields.specs.Declaring.{declaring as declares};
 ghost use Rattle.descriptor_checks.specs.Fields.{AreFields, numbers_in};
 ghost use Rattle.descriptor_checks.specs.Resolved as spec;
 ghost use Rattle.descriptor_checks.specs.Resolves.{AreUses, Resolves};
 ghost use Rattle.descriptor_checks.specs.Told as errors;
 
-use crate::described::descriptors;
+use crate::described::described;
 use crate::fields::{Fields, fields_of};
-use crate::told::{below_errors, no_descriptors, no_fields, numbers_of, use_faults};
+use crate::told::{Sorted, below_errors, numbers_of, sorted_mentions};
 use acpi_names::index::{BlockNames, Index, names_of};
-use acpi_names::mention::Mention;
 use asl_numbers::number::numbered;
 use asl_tree::term::{NamedDescriptor, Node};
 use descriptor_fields::declare::declaring;
-use descriptor_fields::nodes::named_nodes;
 use descriptor_fields::resolve::resolve;
 use iasl_messages::message::Message;
 use name_checks::check::{kind_faults, name_faults};
@@ -59,23 +50,6 @@ pub struct Told {
     pub kinds: Vec<Message>,
     pub owners: Vec<usize>,
     pub table: Vec<Option<NamedDescriptor>>,
-}
-
-/// The descriptors that terms declare, by the numbers of their paths, where their index and their mentions are lent. The only
-/// error is want of memory, as which 2^32 nodes are answered.
-pub fn described(
-    alloc: Global,
-    index: &Index,
-    mentions: &[Mention],
-    terms: &[Node],
-) -> Result<Vec<Option<NamedDescriptor>>, AllocError>
-    requires numbers { trees_of terms.now ≡ numbered_all 0 (plans_of terms.now) }
-    requires names { Agrees index.now.paths index.now.named.items (declarations (trees_of terms.now)) }
-    requires told { all_shown index.now.paths mentions.now ≡ block_mentions (trees_of terms.now) [] nothing_declared }
-    ensures { IfOk result (λ table. Tabled index.now.paths table.items (spec.table_of (plans_of terms.now))) }
-{
-    let named = named_nodes(alloc, terms)?;
-    Ok(descriptors(alloc, index, &named, mentions)?)
 }
 
 // The fields that terms use, and the index of their names.
@@ -118,52 +92,6 @@ pub fn resolved_names(alloc: Global, terms: Vec<Node>) -> Result<Resolved, Alloc
     })
 }
 
-// What is told of names but for the fields that are constants.
-fn tell_names(
-    alloc: Global,
-    known: &Known<'_>,
-    table: &[Option<NamedDescriptor>],
-) -> Result<Vec<Message>, AllocError>
-    ghost whole: { Whole }
-    requires numbers { trees_of known.now.terms.now ≡ numbered_all 0 (plans_of known.now.terms.now) }
-    requires formed { are_terms (trees_of known.now.terms.now) ≡ true }
-    requires known { KnowsItsTerms known.now }
-    requires table { Tabled known.now.facts.index.paths table.now (spec.table_of (plans_of known.now.terms.now)) }
-    requires whole { seen (block_mentions (trees_of known.now.terms.now) [] nothing_declared) ≡ whole }
-    ensures { IfOk result (λ told. told.items ≡ map message_of (errors.names_wrong (plans_of known.now.terms.now))) }
-{
-    let index = &known.facts.index;
-    let kept = no_fields(alloc, index, table, &known.mentions)?;
-    let names = name_faults(alloc, &known.facts, &kept)?;
-    let mut told = names.into_vec();
-    let mut below = below_errors(alloc, index, table, &known.mentions)?;
-    told.append(&mut below)?;
-    Ok(told)
-}
-
-// What is told of kinds and counts but for the fields that are constants.
-fn tell_kinds(
-    alloc: Global,
-    known: &Known<'_>,
-    table: &[Option<NamedDescriptor>],
-) -> Result<Vec<Message>, AllocError>
-    ghost whole: { Whole }
-    requires numbers { trees_of known.now.terms.now ≡ numbered_all 0 (plans_of known.now.terms.now) }
-    requires formed { are_terms (trees_of known.now.terms.now) ≡ true }
-    requires known { KnowsItsTerms known.now }
-    requires table { Tabled known.now.facts.index.paths table.now (spec.table_of (plans_of known.now.terms.now)) }
-    requires whole { seen (block_mentions (trees_of known.now.terms.now) [] nothing_declared) ≡ whole }
-    ensures { IfOk result (λ told. told.items ≡ errors.kinds_wrong (plans_of known.now.terms.now)) }
-{
-    let index = &known.facts.index;
-    let kept = no_descriptors(alloc, index, table, &known.mentions)?;
-    let kinds = kind_faults(alloc, &known.facts, &kept)?;
-    let mut told = kinds.into_vec();
-    let mut uses = use_faults(alloc, index, table, &known.mentions)?;
-    told.append(&mut uses)?;
-    Ok(told)
-}
-
 /// What is told of the names of a block whose terms are resolved, where what is known of these is lent: in the class of
 /// names 6040 to 6046, in that of kinds and counts 6050, 6051, 6054, 6056 and 6020. The only error is want of memory.
 pub fn told_of(alloc: Global, known: &Known<'_>, uses: Uses) -> Result<Told, AllocError>
@@ -186,14 +114,24 @@ pub fn told_of(alloc: Global, known: &Known<'_>, uses: Uses) -> Result<Told, All
     } = uses;
     let found = &known.facts.index;
     let table = described(alloc, found, &known.mentions, known.terms)?;
-    let mut names = tell_names(alloc, known, &table)?;
-    names.append(&mut wrong)?;
-    let mut kinds = tell_kinds(alloc, known, &table)?;
-    kinds.append(&mut broken)?;
-    let owners = numbers_of(alloc, &index.paths, &found.paths, &owners)?;
-    Ok(Told {
+    let Sorted {
         names,
         kinds,
+        mut faults,
+    } = sorted_mentions(alloc, found, &table, &known.mentions)?;
+    let mut below = below_errors(alloc, found, &table, &known.mentions)?;
+    let misnamed = name_faults(alloc, &known.facts, &names)?;
+    let mut of_names = misnamed.into_vec();
+    of_names.append(&mut below)?;
+    of_names.append(&mut wrong)?;
+    let mistyped = kind_faults(alloc, &known.facts, &kinds)?;
+    let mut of_kinds = mistyped.into_vec();
+    of_kinds.append(&mut faults)?;
+    of_kinds.append(&mut broken)?;
+    let owners = numbers_of(alloc, &index.paths, &found.paths, &owners)?;
+    Ok(Told {
+        names: of_names,
+        kinds: of_kinds,
         owners,
         table,
     })

@@ -1,6 +1,7 @@
 //! The fields of descriptors that a block uses.
-ghost use Rattle.std.specs.Prelude.{◌≡◌, ◌<◌, ◌≤◌, ◌++◌, ◌∷◌, ℕ, List, [], Option, length, get_or, map, nat_le, IfOk, OnOk};
+ghost use Rattle.std.specs.Prelude.{◌≡◌, ◌<◌, ◌++◌, ◌∷◌, List, [], Option, length, get_or, map, nat_le, IfOk, OnOk};
 ghost use Rattle.acpi_values.specs.Paths.{AbsolutePath};
+ghost use Rattle.acpi_state.specs.Outcomes.{choose};
 ghost use Rattle.asl_meaning.specs.Declarations.{Declarations, is_named};
 ghost use Rattle.asl_tree.specs.Names.{declared_path};
 ghost use Rattle.acpi_names.specs.Errors.{NoContainer, step_errors};
@@ -129,8 +130,7 @@ fn tell_field(
             tell_opened(alloc, index, out, *here, name)?;
             Ok(())
         }
-        Mention::Declares { .. } => Ok(()),
-        Mention::Outside { .. } => Ok(()),
+        Mention::Declares { .. } | Mention::Outside { .. } => Ok(()),
     }
 }
 
@@ -140,12 +140,23 @@ fn put_field(places: &mut Vec<Option<u64>>, mention: &Mention, bit: u64) -> Resu
         (field_place (shown paths mention.now) bit)) }
 {
     match mention {
-        Mention::Used { at, .. } => Ok(put(places, at.id, bit)?),
-        Mention::Sought { at, .. } => Ok(put(places, at.id, bit)?),
-        Mention::Called { .. } => Ok(()),
-        Mention::Opens { .. } => Ok(()),
-        Mention::Declares { .. } => Ok(()),
-        Mention::Outside { .. } => Ok(()),
+        Mention::Used { at, .. } => Ok(put(places, at.id as usize, bit)?),
+        Mention::Sought { at, .. } => Ok(put(places, at.id as usize, bit)?),
+        Mention::Called { .. } | Mention::Opens { .. } => Ok(()),
+        Mention::Declares { .. } | Mention::Outside { .. } => Ok(()),
+    }
+}
+
+/// Adds a number, where there is one.
+pub(crate) fn push_there(found: &mut Vec<usize>, number: Option<usize>) -> Result<(), AllocError>
+    ensures { OnOk result (found.new.items ≡ found.old.items ++ choose number [] (λ n. n ∷ [])) }
+{
+    match number {
+        Some(number) => {
+            found.push(number)?;
+            Ok(())
+        }
+        None => Ok(()),
     }
 }
 
@@ -160,13 +171,7 @@ fn put_owner(
         (declared_path (outer_path name.now) (get_or index.now.paths scope []) ∷ [])) }
 {
     let outer = prefixed(&index.paths, name, scope_in(&index.paths, scope));
-    match find(&index.paths, outer, outer_segments(name)) {
-        Some(number) => {
-            owners.push(number)?;
-            Ok(())
-        }
-        None => Ok(()),
-    }
+    Ok(push_there(owners, find(&index.paths, outer, outer_segments(name)))?)
 }
 
 // The same of a mention.
@@ -179,8 +184,7 @@ fn own_field(index: &Index, owners: &mut Vec<usize>, mention: &Mention) -> Resul
         Mention::Sought { name, scope, .. } => Ok(put_owner(index, owners, name, *scope)?),
         Mention::Called { name, scope, .. } => Ok(put_owner(index, owners, name, *scope)?),
         Mention::Opens { name, scope, .. } => Ok(put_owner(index, owners, name, *scope)?),
-        Mention::Declares { .. } => Ok(()),
-        Mention::Outside { .. } => Ok(()),
+        Mention::Declares { .. } | Mention::Outside { .. } => Ok(()),
     }
 }
 

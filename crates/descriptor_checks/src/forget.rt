@@ -1,18 +1,9 @@
 //! An index of names without those of descriptors.
 ghost use Rattle.std.specs.Prelude.{◌≡◌, ℕ, false, None, length, get_or, is_some, if◌then◌else◌};
 
+use crate::sense::entry;
 use acpi_names::index::Index;
 use asl_tree::term::NamedDescriptor;
-
-// Whether a descriptor stands at a number.
-fn is_noted(table: &[Option<NamedDescriptor>], number: usize) -> bool
-    ensures { result ≡ is_some (get_or table.now number None) }
-{
-    match table.get(number) {
-        Some(named) => named.is_some(),
-        None => false,
-    }
-}
 
 /// The paths at which a table, by their numbers, has descriptors are named no longer; all others are as before.
 pub fn forget_descriptors(index: &mut Index, table: &[Option<NamedDescriptor>])
@@ -22,7 +13,7 @@ pub fn forget_descriptors(index: &mut Index, table: &[Option<NamedDescriptor>])
         (if is_some (get_or table.now n None) then false else get_or index.old.named.items n false) }
 {
     for number in 0..index.named.len() {
-        if is_noted(table, number) {
+        if entry(table, Some(number)).is_some() {
             index.named[number] = false;
         }
     }

@@ -1,5 +1,5 @@
 //! What a written name denotes where descriptors have names.
-ghost use Rattle.std.specs.Prelude.{◌≡◌, ◌<◌, [], length, get_or, Option, IfOk, IfErr};
+ghost use Rattle.std.specs.Prelude.{◌≡◌, ◌<◌, [], length, get_or, Option};
 ghost use Rattle.acpi_values.specs.Paths.{AbsolutePath};
 ghost use Rattle.asl_meaning.specs.Declarations.{Declarations, is_named};
 ghost use Rattle.acpi_names.specs.Parts.{Agrees};
@@ -7,7 +7,7 @@ ghost use Rattle.acpi_names.specs.Shown.{shown};
 ghost use Rattle.acpi_names.specs.Tables.{Tabled, entry_at};
 ghost use Rattle.asl_tree.specs.declared.term.NamedDescriptor.{NamedDescriptor as ANamed};
 ghost use Rattle.descriptor_checks.specs.Senses as spec;
-ghost use Rattle.descriptor_checks.specs.Shown.{sense_as};
+ghost use Rattle.descriptor_checks.specs.Shown.{IsSense};
 ghost use Rattle.descriptor_checks.specs.Told as told;
 
 use acpi_names::index::{Index, denoted_by};
@@ -15,6 +15,7 @@ use acpi_names::lookup::{find, prefixed, scope_in, single};
 use acpi_names::mention::Mention;
 use asl_tree::path::{NameSeg, Path};
 use asl_tree::term::NamedDescriptor;
+use descriptor_fields::nodes::at_node;
 use resource_layout::layout::descriptor_field;
 use std::alloc::AllocError;
 
@@ -37,18 +38,14 @@ pub(crate) fn entry(
     ensures { result ≡ entry_at table.now number }
 {
     match number {
-        Some(number) => match table.get(number) {
-            Some(entry) => *entry,
-            None => None,
-        },
+        Some(number) => at_node(table, number),
         None => None,
     }
 }
 
 // A field of a descriptor. There is no memory for a template in which its lowest bit has no number of 64 bits.
 fn field_in(named: NamedDescriptor, segment: NameSeg) -> Result<Sense, AllocError>
-    ensures sense { IfOk result (λ sense. sense_as sense ≡ spec.field_in named segment) }
-    ensures far { IfErr result (λ _. spec.IsTooFar (spec.field_in named segment)) }
+    ensures { IsSense result (spec.field_in named segment) }
 {
     let Some((at, _)) = descriptor_field(named.descriptor, segment) else {
         return Ok(Sense::Nothing);
@@ -91,11 +88,9 @@ fn field_sense(
     name: &Path,
     scope: usize,
 ) -> Result<Sense, AllocError>
-    requires scope_in { scope < length index.now.paths }
-    ensures sense { IfOk result (λ sense. (look : AbsolutePath → Option ANamed) → Tabled index.now.paths table.now look →
-        sense_as sense ≡ spec.field_sense look name.now (get_or index.now.paths scope [])) }
-    ensures far { IfErr result (λ _. (look : AbsolutePath → Option ANamed) → Tabled index.now.paths table.now look →
-        spec.IsTooFar (spec.field_sense look name.now (get_or index.now.paths scope []))) }
+    requires { scope < length index.now.paths }
+    ensures { (look : AbsolutePath → Option ANamed) → Tabled index.now.paths table.now look →
+        IsSense result (spec.field_sense look name.now (get_or index.now.paths scope [])) }
 {
     let Some(segment) = last_segment(name) else {
         return Ok(Sense::Nothing);
@@ -107,24 +102,20 @@ fn field_sense(
     }
 }
 
-/// What a name denotes in the scope with a number, where a table has the descriptors by the numbers of their paths. The only
-/// error is want of memory, as which a template of 2^61 bytes is answered, and nothing else.
-pub fn sense_of(
+// What a name denotes in the scope with a number, where a table has the descriptors by the numbers of their paths.
+fn sense_of(
     index: &Index,
     table: &[Option<NamedDescriptor>],
     name: &Path,
     scope: usize,
 ) -> Result<Sense, AllocError>
-    requires scope_in { scope < length index.now.paths }
-    requires all { length index.now.named.items ≡ length index.now.paths }
-    ensures sense { IfOk result (λ sense. (d : Declarations) (look : AbsolutePath → Option ANamed) →
+    requires { length index.now.named.items ≡ length index.now.paths }
+    ensures { (d : Declarations) (look : AbsolutePath → Option ANamed) →
         Agrees index.now.paths index.now.named.items d → Tabled index.now.paths table.now look →
-        sense_as sense ≡ spec.sense_of (is_named d) look name.now (get_or index.now.paths scope [])) }
-    ensures far { IfErr result (λ _. (d : Declarations) (look : AbsolutePath → Option ANamed) →
-        Agrees index.now.paths index.now.named.items d → Tabled index.now.paths table.now look →
-        spec.IsTooFar (spec.sense_of (is_named d) look name.now (get_or index.now.paths scope []))) }
+        IsSense result (spec.sense_of (is_named d) look name.now (get_or index.now.paths scope [])) }
 {
     let count = index.paths.len();
+    let scope = scope_in(&index.paths, scope);
     match denoted_by(index, name, scope) {
         Some(number) => match entry(table, Some(number)) {
             Some(_) => Ok(Sense::Descriptor),
@@ -137,25 +128,6 @@ pub fn sense_of(
     }
 }
 
-// The same in the scope of a mention.
-fn used_sense(
-    index: &Index,
-    table: &[Option<NamedDescriptor>],
-    name: &Path,
-    scope: usize,
-) -> Result<Sense, AllocError>
-    requires all { length index.now.named.items ≡ length index.now.paths }
-    ensures sense { IfOk result (λ sense. (d : Declarations) (look : AbsolutePath → Option ANamed) →
-        Agrees index.now.paths index.now.named.items d → Tabled index.now.paths table.now look →
-        sense_as sense ≡ spec.sense_of (is_named d) look name.now (get_or index.now.paths scope [])) }
-    ensures far { IfErr result (λ _. (d : Declarations) (look : AbsolutePath → Option ANamed) →
-        Agrees index.now.paths index.now.named.items d → Tabled index.now.paths table.now look →
-        spec.IsTooFar (spec.sense_of (is_named d) look name.now (get_or index.now.paths scope []))) }
-{
-    let scope = scope_in(&index.paths, scope);
-    Ok(sense_of(index, table, name, scope)?)
-}
-
 /// What the name of a mention denotes; one that declares a name denotes no descriptor. The only error is want of memory, as
 /// which a template of 2^61 bytes is answered, and nothing else.
 pub fn sense_in(
@@ -164,19 +136,15 @@ pub fn sense_in(
     mention: &Mention,
 ) -> Result<Sense, AllocError>
     requires all { length index.now.named.items ≡ length index.now.paths }
-    ensures sense { IfOk result (λ sense. (d : Declarations) (look : AbsolutePath → Option ANamed) →
+    ensures { (d : Declarations) (look : AbsolutePath → Option ANamed) →
         Agrees index.now.paths index.now.named.items d → Tabled index.now.paths table.now look →
-        sense_as sense ≡ told.sense_in (is_named d) look (shown index.now.paths mention.now)) }
-    ensures far { IfErr result (λ _. (d : Declarations) (look : AbsolutePath → Option ANamed) →
-        Agrees index.now.paths index.now.named.items d → Tabled index.now.paths table.now look →
-        spec.IsTooFar (told.sense_in (is_named d) look (shown index.now.paths mention.now))) }
+        IsSense result (told.sense_in (is_named d) look (shown index.now.paths mention.now)) }
 {
     match mention {
-        Mention::Used { name, scope, .. } => Ok(used_sense(index, table, name, *scope)?),
-        Mention::Sought { name, scope, .. } => Ok(used_sense(index, table, name, *scope)?),
-        Mention::Called { name, scope, .. } => Ok(used_sense(index, table, name, *scope)?),
-        Mention::Opens { name, scope, .. } => Ok(used_sense(index, table, name, *scope)?),
-        Mention::Declares { .. } => Ok(Sense::Nothing),
-        Mention::Outside { .. } => Ok(Sense::Nothing),
+        Mention::Used { name, scope, .. } => Ok(sense_of(index, table, name, *scope)?),
+        Mention::Sought { name, scope, .. } => Ok(sense_of(index, table, name, *scope)?),
+        Mention::Called { name, scope, .. } => Ok(sense_of(index, table, name, *scope)?),
+        Mention::Opens { name, scope, .. } => Ok(sense_of(index, table, name, *scope)?),
+        Mention::Declares { .. } | Mention::Outside { .. } => Ok(Sense::Nothing),
     }
 }

@@ -1,27 +1,25 @@
 //! What is told of the names of a block where descriptors have names, mention by mention.
-ghost use Rattle.std.specs.Prelude.{◌≡◌, ◌<◌, ◌++◌, ◌∷◌, if◌then◌else◌, List, [], Option};
-ghost use Rattle.std.specs.Prelude.{length, get_or, filter, is_some, map, true, IfOk, IfSome, OnOk};
+ghost use Rattle.std.specs.Prelude.{◌≡◌, ◌<◌, ◌++◌, ◌∷◌, Bool, List, [], Option, length, get_or, map, IfOk, IfSome, OnOk};
 ghost use Rattle.acpi_values.specs.Paths.{AbsolutePath};
-ghost use Rattle.acpi_state.specs.Outcomes.{choose};
 ghost use Rattle.asl_meaning.specs.Declarations.{Declarations, is_named, nothing_declared};
 ghost use Rattle.acpi_names.specs.Errors.{Whole};
-ghost use Rattle.acpi_names.specs.Mentions.{after_all};
+ghost use Rattle.acpi_names.specs.Mentions.{Mention as Mentioned, after_all};
 ghost use Rattle.acpi_names.specs.Parts.{Agrees};
 ghost use Rattle.acpi_names.specs.Paths.{number_in};
-ghost use Rattle.acpi_names.specs.Shown.{all_shown, asked_as, shown, spot_as, written_as};
+ghost use Rattle.acpi_names.specs.Shown.{all_shown, asked_as, shown, spot_as};
 ghost use Rattle.acpi_names.specs.Tables.{Tabled};
-ghost use Rattle.asl_tree.specs.Names.{declared_path};
 ghost use Rattle.name_checks.specs.Messages.{message_of};
 ghost use Rattle.name_kinds.specs.Tables.{IsThere};
 ghost use Rattle.asl_tree.specs.declared.term.NamedDescriptor.{NamedDescriptor as ANamed};
-ghost use Rattle.descriptor_checks.specs.Fields.{numbers_in, paths_at};
+ghost use Rattle.descriptor_checks.specs.Fields.{AreSorted, numbers_in, paths_at};
 ghost use Rattle.descriptor_checks.specs.Shown.{sense_as};
 ghost use Rattle.descriptor_checks.specs.Told as spec;
 
+use crate::fields::push_there;
 use crate::sense::{Sense, entry, sense_in};
 use acpi_names::index::Index;
 use acpi_names::lookup::scope_in;
-use acpi_names::mention::{Asked, Mention, Occurrence, WrittenName};
+use acpi_names::mention::{Asked, Mention, Occurrence};
 use acpi_names::paths::Paths;
 use asl_tree::path::Path;
 use asl_tree::term::NamedDescriptor;
@@ -33,92 +31,7 @@ use name_checks::fault::{Fault, message, text_of_name};
 use name_kinds::tables::declared_at;
 use std::alloc::{AllocError, Global};
 
-fn is_field(sense: Sense) -> bool
-    ensures { result ≡ spec.is_field_sense (sense_as sense) }
-{
-    match sense {
-        Sense::Field(_) => true,
-        Sense::Nothing | Sense::Descriptor => false,
-    }
-}
-
-fn is_nothing(sense: Sense) -> bool
-    ensures { result ≡ spec.is_nothing (sense_as sense) }
-{
-    match sense {
-        Sense::Nothing => true,
-        Sense::Descriptor | Sense::Field(_) => false,
-    }
-}
-
-// Adds a mention, if it is to be kept.
-fn push_where<'a>(
-    kept: &mut Vec<Mention<'a>>,
-    keeps: bool,
-    mention: Mention<'a>,
-) -> Result<(), AllocError>
-    ensures { OnOk result (kept.new.items ≡ kept.old.items ++ (if keeps then mention.entry ∷ [] else [])) }
-{
-    if keeps {
-        kept.push(mention)?;
-    }
-    Ok(())
-}
-
-/// The mentions that are no fields of descriptors. The only error is want of memory, as which a template of 2^61 bytes is
-/// answered.
-pub fn no_fields<'a>(
-    alloc: Global,
-    index: &Index,
-    table: &[Option<NamedDescriptor>],
-    mentions: &[Mention<'a>],
-) -> Result<Vec<Mention<'a>>, AllocError>
-    requires all { length index.now.named.items ≡ length index.now.paths }
-    ensures { IfOk result (λ kept. (d : Declarations) (look : AbsolutePath → Option ANamed) →
-        Agrees index.now.paths index.now.named.items d → Tabled index.now.paths table.now look →
-        all_shown index.now.paths kept.items ≡ filter (spec.is_no_field (is_named d) look) (all_shown index.now.paths mentions.now)) }
-{
-    let mut kept = Vec::new(alloc);
-    for mention in mentions {
-        let sense = sense_in(index, table, mention)?;
-        push_where(&mut kept, !is_field(sense), *mention)?;
-    }
-    Ok(kept)
-}
-
-/// The mentions that are no descriptors and no fields of them. The only error is want of memory, as which a template of 2^61
-/// bytes is answered.
-pub fn no_descriptors<'a>(
-    alloc: Global,
-    index: &Index,
-    table: &[Option<NamedDescriptor>],
-    mentions: &[Mention<'a>],
-) -> Result<Vec<Mention<'a>>, AllocError>
-    requires all { length index.now.named.items ≡ length index.now.paths }
-    ensures { IfOk result (λ kept. (d : Declarations) (look : AbsolutePath → Option ANamed) →
-        Agrees index.now.paths index.now.named.items d → Tabled index.now.paths table.now look →
-        all_shown index.now.paths kept.items
-        ≡ filter (spec.is_of_no_descriptor (is_named d) look) (all_shown index.now.paths mentions.now)) }
-{
-    let mut kept = Vec::new(alloc);
-    for mention in mentions {
-        let sense = sense_in(index, table, mention)?;
-        push_where(&mut kept, is_nothing(sense), *mention)?;
-    }
-    Ok(kept)
-}
-
 // ---- names that are declared below descriptors
-
-// Whether the path with a number is that of a descriptor.
-fn is_descriptor(index: &Index, table: &[Option<NamedDescriptor>], number: usize) -> bool
-    requires within { number < length index.now.paths }
-    ensures { (look : AbsolutePath → Option ANamed) → Tabled index.now.paths table.now look →
-        result ≡ is_some (look (get_or index.now.paths number [])) }
-{
-    let count = index.paths.len();
-    entry(table, Some(number)).is_some()
-}
 
 // Whether the path with a number is directly below a descriptor's.
 fn is_below(index: &Index, table: &[Option<NamedDescriptor>], number: usize) -> bool
@@ -126,36 +39,14 @@ fn is_below(index: &Index, table: &[Option<NamedDescriptor>], number: usize) -> 
     ensures { (look : AbsolutePath → Option ANamed) → Tabled index.now.paths table.now look →
         result ≡ spec.is_below look (get_or index.now.paths number []) }
 {
+    let count = index.paths.len();
     match index.paths.step(number) {
-        Some(step) => is_descriptor(index, table, step.0),
+        Some(step) => entry(table, Some(step.0)).is_some(),
         None => false,
     }
 }
 
-// Tells of a declared name that is directly below a descriptor.
-fn tell_declared(
-    alloc: Global,
-    index: &Index,
-    table: &[Option<NamedDescriptor>],
-    out: &mut Vec<Message>,
-    at: Occurrence,
-    name: WrittenName,
-    scope: usize,
-) -> Result<(), AllocError>
-    ghost whole: { Whole }
-    requires agrees { Agrees index.now.paths index.now.named.items whole.all }
-    requires there { is_named whole.all (declared_path (written_as name) (get_or index.now.paths scope [])) ≡ true }
-    ensures { OnOk result ((look : AbsolutePath → Option ANamed) → Tabled index.now.paths table.now look
-        → out.new.items ≡ out.old.items
-        ++ map message_of (spec.declared_below look (spot_as at) (written_as name.entry) (get_or index.now.paths scope []))) }
-{
-    if !is_below(index, table, declared_at(index, name, scope)) {
-        return Ok(());
-    }
-    out.push(message(alloc, &index.paths, Fault::Missing { at, name })?)?;
-    Ok(())
-}
-
+// Tells of a name that is declared directly below a descriptor.
 fn tell_below(
     alloc: Global,
     index: &Index,
@@ -175,12 +66,16 @@ fn tell_below(
             name,
             scope,
             ..
-        } => Ok(tell_declared(alloc, index, table, out, *at, *name, *scope)?),
-        Mention::Used { .. } => Ok(()),
-        Mention::Sought { .. } => Ok(()),
-        Mention::Called { .. } => Ok(()),
-        Mention::Outside { .. } => Ok(()),
-        Mention::Opens { .. } => Ok(()),
+        } => {
+            let (at, name) = (*at, *name);
+            if !is_below(index, table, declared_at(index, name, *scope)) {
+                return Ok(());
+            }
+            out.push(message(alloc, &index.paths, Fault::Missing { at, name })?)?;
+            Ok(())
+        }
+        Mention::Used { .. } | Mention::Sought { .. } | Mention::Called { .. } => Ok(()),
+        Mention::Outside { .. } | Mention::Opens { .. } => Ok(()),
     }
 }
 
@@ -252,52 +147,70 @@ fn tell_fault(alloc: Global, out: &mut Vec<Message>, mention: &Mention) -> Resul
             let text = text_of_name(alloc, name)?;
             Ok(tell(out, WRONG_CALL_ARGUMENT_COUNT, at.place, text)?)
         }
-        Mention::Opens { at, name, .. } => {
-            let text = text_of_name(alloc, name)?;
-            Ok(tell(out, WRONG_OBJECT_KIND, at.place, text)?)
-        }
-        Mention::Declares { .. } => Ok(()),
-        Mention::Outside { .. } => Ok(()),
+        Mention::Opens { at, name, .. } => { Ok(tell_asked(alloc, out, Asked::Object, *at, name)?) }
+        Mention::Declares { .. } | Mention::Outside { .. } => Ok(()),
     }
 }
 
-fn tell_use(
+/// The mentions of a block by what they denote: those that are no fields of descriptors, those that are no descriptors either,
+/// and what is told of the others in the class of kinds: 6050 where a value or a place is asked for, 6054 where an object is,
+/// 6051 at a call.
+#[derive(Drop)]
+pub struct Sorted<'a> {
+    pub names: Vec<Mention<'a>>,
+    pub kinds: Vec<Mention<'a>>,
+    pub faults: Vec<Message>,
+}
+
+// Sorts a mention.
+fn sort<'a>(
     alloc: Global,
-    index: &Index,
-    table: &[Option<NamedDescriptor>],
-    out: &mut Vec<Message>,
-    mention: &Mention,
+    sorted: &mut Sorted<'a>,
+    mention: Mention<'a>,
+    sense: Sense,
 ) -> Result<(), AllocError>
-    requires all { length index.now.named.items ≡ length index.now.paths }
-    ensures { OnOk result ((d : Declarations) (look : AbsolutePath → Option ANamed) → Agrees index.now.paths index.now.named.items d →
-        Tabled index.now.paths table.now look →
-        out.new.items ≡ out.old.items ++ spec.use_faults (is_named d) look (shown index.now.paths mention.now)) }
+    ensures { OnOk result ((paths : List AbsolutePath) (has : AbsolutePath → Bool) (look : AbsolutePath → Option ANamed)
+        (ms : List Mentioned) → sense_as sense ≡ spec.sense_in has look (shown paths mention.entry) → AreSorted paths has look sorted.old ms
+        → AreSorted paths has look sorted.new (ms ++ shown paths mention.entry ∷ [])) }
 {
-    if is_nothing(sense_in(index, table, mention)?) {
-        return Ok(());
+    match sense {
+        Sense::Nothing => {
+            sorted.names.push(mention)?;
+            sorted.kinds.push(mention)?;
+            Ok(())
+        }
+        Sense::Descriptor => {
+            sorted.names.push(mention)?;
+            tell_fault(alloc, &mut sorted.faults, &mention)?;
+            Ok(())
+        }
+        Sense::Field(_) => Ok(tell_fault(alloc, &mut sorted.faults, &mention)?),
     }
-    tell_fault(alloc, out, mention)?;
-    Ok(())
 }
 
-/// What is told of uses of descriptors and of their fields in the class of kinds: 6050 where a value or a place is asked for,
-/// 6054 where an object is, 6051 at a call. The only error is want of memory, as which a template of 2^61 bytes is answered.
-pub fn use_faults(
+/// The mentions of a block by what they denote, where a table has the descriptors by the numbers of their paths. The only
+/// error is want of memory, as which a template of 2^61 bytes is answered.
+pub fn sorted_mentions<'a>(
     alloc: Global,
     index: &Index,
     table: &[Option<NamedDescriptor>],
-    mentions: &[Mention],
-) -> Result<Vec<Message>, AllocError>
+    mentions: &[Mention<'a>],
+) -> Result<Sorted<'a>, AllocError>
     requires all { length index.now.named.items ≡ length index.now.paths }
-    ensures { IfOk result (λ told. (d : Declarations) (look : AbsolutePath → Option ANamed) →
+    ensures { IfOk result (λ sorted. (d : Declarations) (look : AbsolutePath → Option ANamed) →
         Agrees index.now.paths index.now.named.items d → Tabled index.now.paths table.now look →
-        told.items ≡ spec.all_use_faults (is_named d) look (all_shown index.now.paths mentions.now)) }
+        AreSorted index.now.paths (is_named d) look sorted (all_shown index.now.paths mentions.now)) }
 {
-    let mut out = Vec::new(alloc);
+    let mut sorted = Sorted {
+        names: Vec::new(alloc),
+        kinds: Vec::new(alloc),
+        faults: Vec::new(alloc),
+    };
     for mention in mentions {
-        tell_use(alloc, index, table, &mut out, mention)?;
+        let sense = sense_in(index, table, mention)?;
+        sort(alloc, &mut sorted, *mention, sense)?;
     }
-    Ok(out)
+    Ok(sorted)
 }
 
 // ---- descriptors whose fields are used
@@ -320,19 +233,6 @@ fn same_path(from: &Paths, to: &Paths, number: usize) -> Option<usize>
     }
 }
 
-// Adds a number, where there is one.
-fn push_there(found: &mut Vec<usize>, number: Option<usize>) -> Result<(), AllocError>
-    ensures { OnOk result (found.new.items ≡ found.old.items ++ choose number [] (λ n. n ∷ [])) }
-{
-    match number {
-        Some(number) => {
-            found.push(number)?;
-            Ok(())
-        }
-        None => Ok(()),
-    }
-}
-
 /// The numbers that paths have in another index, of those that it has.
 pub fn numbers_of(
     alloc: Global,
@@ -344,8 +244,7 @@ pub fn numbers_of(
 {
     let mut found = Vec::new(alloc);
     for number in numbers {
-        let here = same_path(from, to, scope_in(from, *number));
-        push_there(&mut found, here)?;
+        push_there(&mut found, same_path(from, to, scope_in(from, *number)))?;
     }
     Ok(found)
 }

@@ -1,24 +1,18 @@
 -- Nodes by their numbers, and what is said of them.
-use Rattle.std.proofs.Common.{◌≡◌, ℕ, zero, suc, ◌+◌, ◌<◌, ◌≤◌, Bool, true, false, length, get_or, set, take, List, [], ◌∷◌, ◌++◌, append-nil, append_assoc, Option, Some, None, Vec, Global, refl, sym, ap, ◌∙◌, arith}
-use Rattle.std.specs.Prelude.{nat_eq, slice_get, if◌then◌else◌}
+use Rattle.std.proofs.Common.{◌≡◌, ℕ, zero, suc, ◌+◌, ◌<◌, Bool, true, false, length, get_or, set, List, [], ◌∷◌, ◌++◌, append-nil, length-append, Option, Some, None, refl, sym, ap, ◌∙◌, arith}
+use Rattle.std.specs.Prelude.{nat_eq, slice_get, ◌&&◌, if◌then◌else◌}
 use Rattle.std.proofs.lemmas.Bool.{eqb-true}
 use Rattle.std.proofs.lemmas.Bool.Decides.{nat_tests}
-use Rattle.std.proofs.lemmas.Grind.{take_at_read}
-use Rattle.std.proofs.lemmas.List.{take_all, get_or-set_same, get_or-set_other}
+use Rattle.std.proofs.lemmas.List.{get_or-set_same, get_or-set_other}
 use Rattle.acpi_state.specs.Outcomes.{choose}
-use Rattle.asl_tree.specs.declared.path.Path.{Path}
 use Rattle.asl_tree.specs.declared.term.Op.{Op}
+use Rattle.asl_tree.specs.declared.term.Declaration.{Declaration}
 use Rattle.asl_tree.specs.declared.term.NamedDescriptor.{NamedDescriptor}
-use Rattle.asl_tree.specs.declared.term.Node.{Node}
-use Rattle.asl_tree.specs.declared.term.Term.{Term}
-use Rattle.asl_tree.specs.declared.term.Term as D
-use Rattle.asl_tree.specs.declared.term.Term.TheVariants as V
-use Rattle.asl_shape.specs.Plans.{Plan, a_call, a_form, Plans, no_plans, plan, plan_of, plans_of, join}
-use Rattle.asl_shape.proofs.Plans.{plan_form, plan_call}
-use Rattle.asl_shape.proofs.Settled.{push_is}
+use Rattle.asl_shape.specs.Plans.{Plan, a_call, a_form, Plans, no_plans, plan, plan_at, join}
+use Rattle.asl_shape.specs.Descriptors.{named_of}
 use Rattle.asl_numbers.specs.Numbers.{inside, nodes}
-use Rattle.descriptor_fields.specs.Declaring.{has_terms, declared_by, alone}
-use Rattle.descriptor_fields.specs.Nodes.{at_node, SaysMore, named_first, named_in, named_from}
+use Rattle.descriptor_fields.specs.Declaring.{has_terms, is_naming, declared_by}
+use Rattle.descriptor_fields.specs.Nodes.{at_node, IsPut, SaysAt, SaysMore, named_first, named_in, named_from, own_entry, entries_inside, entries_among}
 
 -- ---- what is said of nodes
 
@@ -41,171 +35,156 @@ none_behind {A} [] (suc n) = refl
 none_behind {A} (x ∷ xs) zero = refl
 none_behind {A} (x ∷ xs) (suc n) = none_behind xs n
 
--- the first that is said of a node, and what is said later
-pub first_said : {A : Type 0} (old now : List (Option A)) (number : ℕ) (value : A) → number < length now → ((n : ℕ) → get_or now n None ≡ get_or old n None) → get_or now number None ≡ None → SaysMore old (set now number (Some value)) ((number, value) ∷ [])
-first_said {A} old now number value lt same none said says node = by_place (nat_eq number node) refl ∙ sym (said_append said ((number, value) ∷ []) node)
+-- the first that is said at a number, and what is said later
+pub first_put : {A : Type 0} (old now : List (Option A)) (number : ℕ) (value : A) → number < length now → ((n : ℕ) → get_or now n None ≡ get_or old n None) → get_or now number None ≡ None → IsPut old (set now number (Some value)) number value
+first_put {A} old now number value lt same none n = by_place (nat_eq number n) refl
   where
-    by_place : (c : Bool) → nat_eq number node ≡ c → get_or (set now number (Some value)) node None ≡ choose (at_node said node) (if c then Some value else None) Some
+    by_place : (c : Bool) → nat_eq number n ≡ c → get_or (set now number (Some value)) n None ≡ choose (get_or old n None) (if nat_eq number n then Some value else None) Some
     by_place true c =
-        let e : number ≡ node = eqb-true number node c in
-        let here : at_node said node ≡ None = ap (at_node said) (sym e) ∙ sym (says number) ∙ sym (same number) ∙ none in
-        ap (λ k. get_or (set now number (Some value)) k None) (sym e) ∙ get_or-set_same now number (Some value) None lt ∙ sym (ap (λ o. choose o (Some value) Some) here)
-    by_place false c = get_or-set_other now number node (Some value) None (grind (arith, nat_tests, c)) ∙ same node ∙ says node ∙ or_none (at_node said node)
+        let e : number ≡ n = eqb-true number n c in
+        ap (λ k. get_or (set now number (Some value)) k None) (sym e) ∙ get_or-set_same now number (Some value) None lt
+        ∙ sym (ap (λ b. choose (get_or old n None) (if b then Some value else None) Some) c ∙ ap (λ o. choose o (Some value) Some) (ap (λ k. get_or old k None) (sym e) ∙ sym (same number) ∙ none))
+    by_place false c =
+        get_or-set_other now number n (Some value) None (grind (arith, nat_tests, c)) ∙ same n ∙ or_none (get_or old n None)
+        ∙ sym (ap (λ b. choose (get_or old n None) (if b then Some value else None) Some) c)
 
-pub later_said : {A : Type 0} (old now : List (Option A)) (number : ℕ) (value first : A) → ((n : ℕ) → get_or now n None ≡ get_or old n None) → get_or now number None ≡ Some first → SaysMore old now ((number, value) ∷ [])
-later_said {A} old now number value first same there said says node = same node ∙ says node ∙ by_place (nat_eq number node) refl ∙ sym (said_append said ((number, value) ∷ []) node)
+pub later_put : {A : Type 0} (old now : List (Option A)) (number : ℕ) (value first : A) → ((n : ℕ) → get_or now n None ≡ get_or old n None) → get_or now number None ≡ Some first → IsPut old now number value
+later_put {A} old now number value first same there n = same n ∙ by_place (nat_eq number n) refl
   where
-    by_place : (c : Bool) → nat_eq number node ≡ c → at_node said node ≡ choose (at_node said node) (if c then Some value else None) Some
+    by_place : (c : Bool) → nat_eq number n ≡ c → get_or old n None ≡ choose (get_or old n None) (if nat_eq number n then Some value else None) Some
     by_place true c =
-        let here : at_node said node ≡ Some first = ap (at_node said) (sym (eqb-true number node c)) ∙ sym (says number) ∙ sym (same number) ∙ there in
-        here ∙ sym (ap (λ o. choose o (Some value) Some) here)
-    by_place false c = or_none (at_node said node)
+        let here : get_or old n None ≡ Some first = ap (λ k. get_or old k None) (sym (eqb-true number n c)) ∙ sym (same number) ∙ there in
+        here ∙ sym (ap (λ o. choose o (if nat_eq number n then Some value else None) Some) here)
+    by_place false c = or_none (get_or old n None) ∙ sym (ap (λ b. choose (get_or old n None) (if b then Some value else None) Some) c)
 
--- nothing more
-pub same_said : {A : Type 0} (table : List (Option A)) → SaysMore table table []
-same_said {A} table said says node = says node ∙ ap (λ s. at_node s node) (sym (append-nil said))
+pub put_said : {A : Type 0} (old new : List (Option A)) (number : ℕ) (value : A) → IsPut old new number value → SaysMore old new ((number, value) ∷ [])
+put_said {A} old new number value is said says n =
+    is n ∙ ap (λ o. choose o (if nat_eq number n then Some value else None) Some) (says n) ∙ sym (said_append said ((number, value) ∷ []) n)
 
--- one thing after another
-pub then_said : {A : Type 0} (old now new : List (Option A)) (more others both : List (ℕ × A)) → SaysMore old now more → SaysMore now new others → more ++ others ≡ both → SaysMore old new both
-then_said {A} old now new more others both f g e said says node = g (said ++ more) (f said says) node ∙ ap (λ s. at_node s node) (append_assoc said more others ∙ ap (λ ms. said ++ ms) e)
-
--- ---- the nodes in terms
-
--- no node stands inside a term that is no call and no form
-pub none_inside : (t : Term) → ((p : Path) (v : Vec Node Global) → t ≡ D.Call p v → ⊥) → ((o : Op) (v w : Vec Node Global) → t ≡ D.Form o v w → ⊥) → inside (plan_of t) ≡ 0
-unfolding plan_of
-none_inside t not_call not_form = by_layer (D.out-Term t) (sym (D.roll-out-Term t))
-  where
-    by_layer : (f : D.Term-F Term Node) → t ≡ D.roll-Term f → inside (plan_of t) ≡ 0
-    by_layer (D.Term-F.Call p v) e = absurd (not_call p v (e ∙ V.rolls-Call p v))
-    by_layer (D.Term-F.Form o v w) e = absurd (not_form o v w (e ∙ V.rolls-Form o v w))
-    by_layer (D.Term-F.Name p) e = ap (λ t. inside (plan_of t)) (e ∙ V.rolls-Name p)
-    by_layer (D.Term-F.Integer n) e = ap (λ t. inside (plan_of t)) (e ∙ V.rolls-Integer n)
-    by_layer (D.Term-F.Text text) e = ap (λ t. inside (plan_of t)) (e ∙ V.rolls-Text text)
-    by_layer (D.Term-F.Fill bytes named) e = ap (λ t. inside (plan_of t)) (e ∙ V.rolls-Fill bytes named)
-    by_layer (D.Term-F.Word word) e = ap (λ t. inside (plan_of t)) (e ∙ V.rolls-Word word)
-    by_layer (D.Term-F.Local n) e = ap (λ t. inside (plan_of t)) (e ∙ V.rolls-Local n)
-    by_layer (D.Term-F.Arg n) e = ap (λ t. inside (plan_of t)) (e ∙ V.rolls-Arg n)
-    by_layer (D.Term-F.Debug) e = ap (λ t. inside (plan_of t)) (e ∙ V.rolls-Debug)
-    by_layer (D.Term-F.Omitted) e = ap (λ t. inside (plan_of t)) (e ∙ V.rolls-Omitted)
-    by_layer (D.Term-F.Unit p n) e = ap (λ t. inside (plan_of t)) (e ∙ V.rolls-Unit p n)
-    by_layer (D.Term-F.Skip n) e = ap (λ t. inside (plan_of t)) (e ∙ V.rolls-Skip n)
-    by_layer (D.Term-F.Offset n) e = ap (λ t. inside (plan_of t)) (e ∙ V.rolls-Offset n)
-    by_layer (D.Term-F.Access access attribute count) e = ap (λ t. inside (plan_of t)) (e ∙ V.rolls-Access access attribute count)
-
--- the plan of a call and of a form, by the nodes in it
-pub call_is : (t : Term) (path : Path) (args : Vec Node Global) (xs : List Node) → t ≡ D.Call path args → xs ≡ args.items → plan_of t ≡ a_call path (plans_of xs)
-call_is t path args xs e same = ap plan_of e ∙ plan_call path args ∙ ap (λ ns. a_call path (plans_of ns)) (sym same)
-
-pub form_is : (t : Term) (op : Op) (args body : Vec Node Global) (xs ys : List Node) → t ≡ D.Form op args body → xs ≡ args.items → ys ≡ body.items → plan_of t ≡ a_form op (plans_of xs) (plans_of ys)
-form_is t op args body xs ys e a b =
-    ap plan_of e ∙ plan_form op args body ∙ ap (λ ns. a_form op (plans_of ns) (plans_of body.items)) (sym a) ∙ ap (λ ns. a_form op (plans_of xs) (plans_of ns)) (sym b)
-
-pub inside_call : (t : Term) (path : Path) (args : Vec Node Global) (xs : List Node) → t ≡ D.Call path args → xs ≡ args.items → inside (plan_of t) ≡ nodes (plans_of xs)
-inside_call t path args xs e same = ap inside (call_is t path args xs e same)
-
-pub inside_form : (t : Term) (op : Op) (args body : Vec Node Global) (xs ys : List Node) → t ≡ D.Form op args body → xs ≡ args.items → ys ≡ body.items → inside (plan_of t) ≡ nodes (plans_of xs) + nodes (plans_of ys)
-inside_form t op args body xs ys e a b = ap inside (form_is t op args body xs ys e a b)
-
--- ---- nodes one after another
-
-pub next_plans : (ns : List Node) (i : ℕ) (d : Node) → i < length ns → d ≡ get_or ns i d → plans_of (take (i + 1) ns) ≡ join (plans_of (take i ns)) (alone d.place (plan_of d.term))
-next_plans ns i d lt is = ap plans_of ((take_at_read ns i d lt).1 ∙ ap (λ n. take i ns ++ n ∷ []) (sym is)) ∙ push_is (take i ns) d
+-- ---- the nodes of a table
 
 pub nodes_join : (ps qs : Plans) → nodes (join ps qs) ≡ nodes ps + nodes qs
 nodes_join no_plans qs = omega arith
 nodes_join (plan place p ps) qs = omega (arith, nodes_join ps qs)
 
-pub no_nodes : (ns : List Node) → nodes (plans_of (take 0 ns)) ≡ 0
-unfolding plans_of
-no_nodes [] = refl
-no_nodes (n ∷ ns) = refl
+-- what a table says of the nodes from one on
+abbrev pairs : {A : Type 0} → ℕ → List (Option A) → List (ℕ × A)
+pairs n [] = []
+pairs n (None ∷ es) = pairs (suc n) es
+pairs n (Some a ∷ es) = (n, a) ∷ pairs (suc n) es
 
-pub next_nodes : (ns : List Node) (i : ℕ) (d : Node) → i < length ns → d ≡ get_or ns i d → nodes (plans_of (take (i + 1) ns)) ≡ nodes (plans_of (take i ns)) + suc (inside (plan_of d.term))
-next_nodes ns i d lt is =
-    let more = ap nodes (next_plans ns i d lt is) in
-    omega (arith, more, nodes_join (plans_of (take i ns)) (alone d.place (plan_of d.term)))
+pairs_append : {A : Type 0} (n : ℕ) (xs ys : List (Option A)) → pairs n (xs ++ ys) ≡ pairs n xs ++ pairs (n + length xs) ys
+pairs_append {A} n [] ys = ap (λ m. pairs m ys) (let e : n ≡ n + 0 = omega arith in e)
+pairs_append {A} n (None ∷ xs) ys =
+    pairs_append (suc n) xs ys ∙ ap (λ m. pairs (suc n) xs ++ pairs m ys) (let e : suc n + length xs ≡ n + suc (length xs) = omega arith in e)
+pairs_append {A} n (Some a ∷ xs) ys =
+    ap (λ ps. (n, a) ∷ ps) (pairs_append (suc n) xs ys ∙ ap (λ m. pairs (suc n) xs ++ pairs m ys) (let e : suc n + length xs ≡ n + suc (length xs) = omega arith in e))
 
-pub all_nodes : (ns : List Node) (i : ℕ) → length ns ≤ i → nodes (plans_of (take i ns)) ≡ nodes (plans_of ns)
-all_nodes ns i le = ap (λ ms. nodes (plans_of ms)) (take_all i ns le)
+none_before : {A : Type 0} (n k : ℕ) (es : List (Option A)) → k < n → at_node (pairs n es) k ≡ None
+none_before {A} n k [] lt = refl
+none_before {A} n k (None ∷ es) lt = none_before (suc n) k es (omega (arith, lt))
+none_before {A} n k (Some a ∷ es) lt =
+    let other : nat_eq n k ≡ false = grind (arith, nat_tests, lt) in
+    ap (λ c. if c then Some a else at_node (pairs (suc n) es) k) other ∙ none_before (suc n) k es (omega (arith, lt))
 
-named_join : (next : ℕ) (ps qs : Plans) → named_from next (join ps qs) ≡ named_from next ps ++ named_from (next + nodes ps) qs
-named_join next no_plans qs = ap (λ n. named_from n qs) (let e : next ≡ next + 0 = omega arith in e)
-named_join next (plan place p ps) qs =
-    ap (λ ns. named_in (suc next) p ++ ns) (named_join (suc (next + inside p)) ps qs)
-    ∙ sym (append_assoc (named_in (suc next) p) (named_from (suc (next + inside p)) ps) (named_from (suc (next + inside p) + nodes ps) qs))
-    ∙ ap (λ n. (named_in (suc next) p ++ named_from (suc (next + inside p)) ps) ++ named_from n qs) (let e : suc (next + inside p) + nodes ps ≡ next + suc (inside p + nodes ps) = omega arith in e)
+pairs_say : {A : Type 0} (n k : ℕ) (es : List (Option A)) → get_or es k None ≡ at_node (pairs n es) (n + k)
+pairs_say {A} n zero [] = refl
+pairs_say {A} n (suc k) [] = refl
+pairs_say {A} n zero (None ∷ es) = sym (none_before (suc n) (n + 0) es (omega arith))
+pairs_say {A} n zero (Some a ∷ es) =
+    let same : nat_eq n (n + 0) ≡ true = grind (arith, nat_tests) in sym (ap (λ c. if c then Some a else at_node (pairs (suc n) es) (n + 0)) same)
+pairs_say {A} n (suc k) (None ∷ es) = pairs_say (suc n) k es ∙ ap (at_node (pairs (suc n) es)) (let e : suc n + k ≡ n + suc k = omega arith in e)
+pairs_say {A} n (suc k) (Some a ∷ es) =
+    let other : nat_eq n (n + suc k) ≡ false = grind (arith, nat_tests) in
+    pairs_say (suc n) k es ∙ ap (at_node (pairs (suc n) es)) (let e : suc n + k ≡ n + suc k = omega arith in e)
+    ∙ sym (ap (λ c. if c then Some a else at_node (pairs (suc n) es) (n + suc k)) other)
 
-pub no_named : (first : ℕ) (ns : List Node) → named_from first (plans_of (take 0 ns)) ≡ []
-unfolding plans_of
-no_named first [] = refl
-no_named first (n ∷ ns) = refl
+mutual
+  entries_in : (terms : Bool) (p : Plan) → length (entries_inside terms p) ≡ inside p
+  entries_in terms (a_call name args) = all_entries false None args
+  entries_in terms (a_form op args body) =
+      let own = own_entry terms (a_form op args body) in
+      let xs = all_entries false own args in
+      let ys = all_entries (terms && has_terms op) None body in
+      omega (arith, xs, ys, length-append (entries_among false own args) (entries_among (terms && has_terms op) None body))
+  entries_in terms p = refl
 
-pub next_named : (first next : ℕ) (ns : List Node) (i : ℕ) (d : Node) → i < length ns → d ≡ get_or ns i d → next ≡ first + nodes (plans_of (take i ns)) → named_from first (plans_of (take i ns)) ++ named_in (suc next) (plan_of d.term) ≡ named_from first (plans_of (take (i + 1) ns))
-next_named first next ns i d lt is at =
-    let begun = named_from first (plans_of (take i ns)) in
-    sym (ap (named_from first) (next_plans ns i d lt is) ∙ named_join first (plans_of (take i ns)) (alone d.place (plan_of d.term))
-    ∙ ap (λ n. begun ++ named_from n (alone d.place (plan_of d.term))) (sym at)
-    ∙ ap (λ ms. begun ++ ms) (append-nil (named_in (suc next) (plan_of d.term))))
+  all_entries : (terms : Bool) (first : Option NamedDescriptor) (ps : Plans) → length (entries_among terms first ps) ≡ nodes ps
+  all_entries terms first no_plans = refl
+  all_entries terms first (plan place p ps) =
+      let xs = entries_in terms p in
+      let ys = all_entries terms None ps in
+      omega (arith, xs, ys, length-append (entries_inside terms p) (entries_among terms None ps))
 
-pub all_named : (first : ℕ) (ns : List Node) (i : ℕ) → length ns ≤ i → named_from first (plans_of (take i ns)) ≡ named_from first (plans_of ns)
-all_named first ns i le = ap (λ ms. named_from first (plans_of ms)) (take_all i ns le)
+both_quiet : {A : Type 0} (n : ℕ) (xs ys : List (Option A)) → pairs n xs ≡ [] → ((m : ℕ) → pairs m ys ≡ []) → pairs n (xs ++ ys) ≡ []
+both_quiet {A} n xs ys e f = pairs_append n xs ys ∙ ap (λ ps. ps ++ pairs (n + length xs) ys) e ∙ f (n + length xs)
 
--- ---- a term
+-- what opens a list of terms declares no descriptor
+no_name : (op : Op) → has_terms op ≡ true → is_naming op ≡ false
+no_name (Op.Declaration Declaration.Name) h = absurd cc
+no_name _ h = refl
 
--- the descriptor that it declares
-abbrev or_first : NamedDescriptor → Option NamedDescriptor → NamedDescriptor
-or_first named None = named
-or_first named (Some other) = other
+-- what is no term declares nothing
+mutual
+  quiet_in : (n : ℕ) (p : Plan) → pairs n (entries_inside false p) ≡ []
+  quiet_in n (a_call name args) = quiet n args
+  quiet_in n (a_form op args body) = both_quiet n (entries_among false None args) (entries_among false None body) (quiet n args) (λ m. quiet m body)
+  quiet_in n p = refl
 
-pub first_named : (first : ℕ) (names : List NamedDescriptor) (named : NamedDescriptor) → Some named ≡ slice_get names 0 → (first, named) ∷ [] ≡ named_first first names
-first_named first [] named e = absurd (grind arith)
-first_named first (other ∷ names) named e = ap (λ n. (first, n) ∷ []) (ap (or_first named) e)
+  quiet : (n : ℕ) (ps : Plans) → pairs n (entries_among false None ps) ≡ []
+  quiet n no_plans = refl
+  quiet n (plan place p ps) = both_quiet (suc n) (entries_inside false p) (entries_among false None ps) (quiet_in (suc n) p) (λ m. quiet m ps)
 
-pub none_first : (first : ℕ) (names : List NamedDescriptor) → None ≡ slice_get names 0 → [] ≡ named_first first names
-none_first first [] e = refl
-none_first first (other ∷ names) e = absurd (grind arith)
+module _ (n : ℕ) (op : Op) (args body : Plans) where
+  abbrev names : List NamedDescriptor
+  names = declared_by (a_form op args body)
 
-pub form_named : (first next : ℕ) (t : Term) (op : Op) (args body : Vec Node Global) (xs ys : List Node) → t ≡ D.Form op args body → xs ≡ args.items → ys ≡ body.items → has_terms op ≡ true → next ≡ first + nodes (plans_of xs)
-    → named_from next (plans_of ys) ≡ named_in first (plan_of t)
-form_named first next t op args body xs ys e a b terms is =
-    ap (λ n. named_from n (plans_of ys)) is
-    ∙ sym (ap (named_in first) (form_is t op args body xs ys e a b)
-    ∙ ap (λ c. if c then named_from (first + nodes (plans_of xs)) (plans_of ys) else named_first first (declared_by (a_form op (plans_of xs) (plans_of ys)))) terms)
+  -- the first node inside a term that declares a descriptor is its name
+  named_first_is : (ps : Plans) → ps ≡ args → pairs n (entries_among false (slice_get names 0) ps) ≡ named_first n names
+  named_first_is no_plans e = sym (ap (λ ds. named_first n ds) (ap (λ ps. declared_by (a_form op ps body)) (sym e) ∙ none_without (is_naming op)))
+    where
+      none_without : (c : Bool) → (if c then named_of (plan_at no_plans 1) else []) ≡ []
+      none_without true = refl
+      none_without false = refl
+  named_first_is (plan place p ps) e = by_names names
+    where
+      by_names : (ds : List NamedDescriptor) → pairs n (entries_among false (slice_get ds 0) (plan place p ps)) ≡ named_first n ds
+      by_names [] = quiet n (plan place p ps)
+      by_names (d ∷ ds) = ap (λ xs. (n, d) ∷ xs) (quiet n (plan place p ps))
 
-pub own_named : (first : ℕ) (t : Term) (op : Op) (args body : Vec Node Global) → t ≡ D.Form op args body → has_terms op ≡ false → named_first first (declared_by (plan_of t)) ≡ named_in first (plan_of t)
-own_named first t op args body e terms =
-    let form = form_is t op args body args.items body.items e refl refl in
-    ap (λ p. named_first first (declared_by p)) form
-    ∙ sym (ap (named_in first) form
-    ∙ ap (λ c. if c then named_from (first + nodes (plans_of args.items)) (plans_of body.items) else named_first first (declared_by (a_form op (plans_of args.items) (plans_of body.items)))) terms)
+  form_named : ((m : ℕ) → pairs m (entries_among true None body) ≡ named_from m body) → pairs n (entries_inside true (a_form op args body)) ≡ named_in n (a_form op args body)
+  form_named inner =
+      pairs_append n (entries_among false (slice_get names 0) args) (entries_among (has_terms op) None body)
+      ∙ ap (λ m. pairs n (entries_among false (slice_get names 0) args) ++ pairs (n + m) (entries_among (has_terms op) None body)) (all_entries false (slice_get names 0) args)
+      ∙ by_terms (has_terms op) refl
+    where
+      by_terms : (c : Bool) → has_terms op ≡ c → pairs n (entries_among false (slice_get names 0) args) ++ pairs (n + nodes args) (entries_among (has_terms op) None body) ≡ (if has_terms op then named_from (n + nodes args) body else named_first n names)
+      by_terms true h =
+          ap (λ ds. pairs n (entries_among false (slice_get ds 0) args) ++ pairs (n + nodes args) (entries_among (has_terms op) None body)) (ap (λ b. if b then named_of (plan_at args 1) else []) (no_name op h))
+          ∙ ap (λ xs. xs ++ pairs (n + nodes args) (entries_among (has_terms op) None body)) (quiet n args)
+          ∙ ap (λ b. pairs (n + nodes args) (entries_among b None body)) h ∙ inner (n + nodes args)
+          ∙ sym (ap (λ b. if b then named_from (n + nodes args) body else named_first n names) h)
+      by_terms false h =
+          ap (λ xs. xs ++ pairs (n + nodes args) (entries_among (has_terms op) None body)) (named_first_is args refl)
+          ∙ ap (λ b. named_first n names ++ pairs (n + nodes args) (entries_among b None body)) h
+          ∙ ap (λ xs. named_first n names ++ xs) (quiet (n + nodes args) body) ∙ append-nil (named_first n names)
+          ∙ sym (ap (λ b. if b then named_from (n + nodes args) body else named_first n names) h)
 
--- one that is no form declares nothing
-abbrev not_a_form : Plan → Bool
-not_a_form (a_form op args body) = false
-not_a_form _ = true
+mutual
+  named_inside : (n : ℕ) (p : Plan) → pairs n (entries_inside true p) ≡ named_in n p
+  named_inside n (a_call name args) = quiet n args
+  named_inside n (a_form op args body) = form_named n op args body (λ m. named_among m body)
+  named_inside n p = refl
 
-flat_named : (first : ℕ) (p : Plan) → not_a_form p ≡ true → named_in first p ≡ []
-flat_named first (a_form op args body) e = absurd (grind arith)
-flat_named first p e = refl
+  named_among : (n : ℕ) (ps : Plans) → pairs n (entries_among true None ps) ≡ named_from n ps
+  named_among n no_plans = refl
+  named_among n (plan place p ps) =
+      pairs_append (suc n) (entries_inside true p) (entries_among true None ps)
+      ∙ ap (λ m. pairs (suc n) (entries_inside true p) ++ pairs m (entries_among true None ps)) (let size = entries_in true p in let e : suc n + length (entries_inside true p) ≡ suc (n + inside p) = omega (arith, size) in e)
+      ∙ ap (λ xs. xs ++ pairs (suc (n + inside p)) (entries_among true None ps)) (named_inside (suc n) p)
+      ∙ ap (λ xs. named_in (suc n) p ++ xs) (named_among (suc (n + inside p)) ps)
 
-pub none_named : (first : ℕ) (t : Term) → ((o : Op) (v w : Vec Node Global) → t ≡ D.Form o v w → ⊥) → [] ≡ named_in first (plan_of t)
-unfolding plan_of
-none_named first t not_form = sym (flat_named first (plan_of t) (by_layer (D.out-Term t) (sym (D.roll-out-Term t))))
-  where
-    by_layer : (f : D.Term-F Term Node) → t ≡ D.roll-Term f → not_a_form (plan_of t) ≡ true
-    by_layer (D.Term-F.Form o v w) e = absurd (not_form o v w (e ∙ V.rolls-Form o v w))
-    by_layer (D.Term-F.Call p v) e = ap (λ t. not_a_form (plan_of t)) (e ∙ V.rolls-Call p v) ∙ ap not_a_form (plan_call p v)
-    by_layer (D.Term-F.Name p) e = ap (λ t. not_a_form (plan_of t)) (e ∙ V.rolls-Name p)
-    by_layer (D.Term-F.Integer n) e = ap (λ t. not_a_form (plan_of t)) (e ∙ V.rolls-Integer n)
-    by_layer (D.Term-F.Text text) e = ap (λ t. not_a_form (plan_of t)) (e ∙ V.rolls-Text text)
-    by_layer (D.Term-F.Fill bytes named) e = ap (λ t. not_a_form (plan_of t)) (e ∙ V.rolls-Fill bytes named)
-    by_layer (D.Term-F.Word word) e = ap (λ t. not_a_form (plan_of t)) (e ∙ V.rolls-Word word)
-    by_layer (D.Term-F.Local n) e = ap (λ t. not_a_form (plan_of t)) (e ∙ V.rolls-Local n)
-    by_layer (D.Term-F.Arg n) e = ap (λ t. not_a_form (plan_of t)) (e ∙ V.rolls-Arg n)
-    by_layer (D.Term-F.Debug) e = ap (λ t. not_a_form (plan_of t)) (e ∙ V.rolls-Debug)
-    by_layer (D.Term-F.Omitted) e = ap (λ t. not_a_form (plan_of t)) (e ∙ V.rolls-Omitted)
-    by_layer (D.Term-F.Unit p n) e = ap (λ t. not_a_form (plan_of t)) (e ∙ V.rolls-Unit p n)
-    by_layer (D.Term-F.Skip n) e = ap (λ t. not_a_form (plan_of t)) (e ∙ V.rolls-Skip n)
-    by_layer (D.Term-F.Offset n) e = ap (λ t. not_a_form (plan_of t)) (e ∙ V.rolls-Offset n)
-    by_layer (D.Term-F.Access access attribute count) e = ap (λ t. not_a_form (plan_of t)) (e ∙ V.rolls-Access access attribute count)
+pub entries_say : (ps : Plans) → SaysAt (entries_among true None ps) (named_from 0 ps)
+entries_say ps node =
+    let es = entries_among true None ps in
+    pairs_say 0 node es ∙ ap (at_node (pairs 0 es)) (let e : 0 + node ≡ node = omega arith in e) ∙ ap (λ s. at_node s node) (named_among 0 ps)

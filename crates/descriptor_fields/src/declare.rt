@@ -31,10 +31,10 @@ pub(crate) fn has_terms(op: Op) -> bool
 fn names_first(op: Op) -> bool
     ensures { result ≡ spec.names_first op }
 {
-    match op {
-        Op::Declaration(Declaration::Name | Declaration::OperationRegion) => true,
-        _ => false,
-    }
+    matches!(
+        op,
+        Op::Declaration(Declaration::Name | Declaration::OperationRegion)
+    )
 }
 
 #[tactic(auto, using(crate::proofs::Terms::first_rules))]
@@ -43,20 +43,7 @@ fn is_first(term: &Term) -> bool
 {
     match term {
         Term::Form { op, .. } => names_first(*op),
-        Term::Integer(_) => false,
-        Term::Text(_) => false,
-        Term::Fill { .. } => false,
-        Term::Word(_) => false,
-        Term::Local(_) => false,
-        Term::Arg(_) => false,
-        Term::Debug => false,
-        Term::Omitted => false,
-        Term::Name(_) => false,
-        Term::Unit { .. } => false,
-        Term::Skip(_) => false,
-        Term::Offset(_) => false,
-        Term::Access { .. } => false,
-        Term::Call { .. } => false,
+        _ => false,
     }
 }
 
@@ -70,18 +57,7 @@ fn names_descriptor(term: &Term) -> bool
         Term::Fill { named, .. } => !named.as_slice().is_empty(),
         Term::Call { args, .. } => names_descriptors(args),
         Term::Form { args, body, .. } => names_descriptors(args) || names_descriptors(body),
-        Term::Integer(_) => false,
-        Term::Text(_) => false,
-        Term::Word(_) => false,
-        Term::Local(_) => false,
-        Term::Arg(_) => false,
-        Term::Debug => false,
-        Term::Omitted => false,
-        Term::Name(_) => false,
-        Term::Unit { .. } => false,
-        Term::Skip(_) => false,
-        Term::Offset(_) => false,
-        Term::Access { .. } => false,
+        _ => false,
     }
 }
 
@@ -107,10 +83,7 @@ fn add_inside(names: &mut Vec<NamedDescriptor>, term: &Term) -> Result<(), Alloc
 {
     match term {
         Term::Fill { named, .. } => Ok(names.extend_from_slice(named.as_slice())?),
-        Term::Call { args, .. } => {
-            add_among(names, args)?;
-            Ok(())
-        }
+        Term::Call { args, .. } => Ok(add_among(names, args)?),
         Term::Form { op, args, body } => {
             add_among(names, args)?;
             if !has_terms(*op) {
@@ -118,18 +91,7 @@ fn add_inside(names: &mut Vec<NamedDescriptor>, term: &Term) -> Result<(), Alloc
             }
             Ok(())
         }
-        Term::Integer(_) => Ok(()),
-        Term::Text(_) => Ok(()),
-        Term::Word(_) => Ok(()),
-        Term::Local(_) => Ok(()),
-        Term::Arg(_) => Ok(()),
-        Term::Debug => Ok(()),
-        Term::Omitted => Ok(()),
-        Term::Name(_) => Ok(()),
-        Term::Unit { .. } => Ok(()),
-        Term::Skip(_) => Ok(()),
-        Term::Offset(_) => Ok(()),
-        Term::Access { .. } => Ok(()),
+        _ => Ok(()),
     }
 }
 
@@ -152,16 +114,14 @@ pub(crate) fn push(nodes: &mut Vec<Node>, place: Place, term: Term) -> Result<()
     Ok(())
 }
 
-fn segment_path(alloc: Global, segment: NameSeg) -> Result<Path, AllocError>
-    ensures { IfOk result (λ path. path ≡ spec.segment_path segment) }
+fn segment_path(segment: NameSeg) -> Path
+    ensures { result ≡ spec.segment_path segment }
 {
-    let mut segs = Vec::new(alloc);
-    segs.push(segment)?;
-    Ok(Path {
+    Path {
         root: false,
         up: 0,
-        segs: Segs::from_vec(segs),
-    })
+        segs: Segs::one(segment),
+    }
 }
 
 // The term that declares a descriptor.
@@ -172,11 +132,7 @@ fn declaration(alloc: Global, named: NamedDescriptor) -> Result<Term, AllocError
     let mut own = List::new(alloc);
     own.push(named)?;
     let mut args = Vec::new(alloc);
-    push(
-        &mut args,
-        named.place,
-        Term::Name(segment_path(alloc, named.name)?),
-    )?;
+    push(&mut args, named.place, Term::Name(segment_path(named.name)))?;
     push(
         &mut args,
         named.place,
@@ -222,28 +178,7 @@ fn open(alloc: Global, term: Term) -> Result<Term, AllocError>
             }
             Ok(Term::Form { op, args, body })
         }
-        Term::Integer(number) => Ok(Term::Integer(number)),
-        Term::Text(text) => Ok(Term::Text(text)),
-        Term::Fill { bytes, named } => Ok(Term::Fill { bytes, named }),
-        Term::Word(word) => Ok(Term::Word(word)),
-        Term::Local(index) => Ok(Term::Local(index)),
-        Term::Arg(index) => Ok(Term::Arg(index)),
-        Term::Debug => Ok(Term::Debug),
-        Term::Omitted => Ok(Term::Omitted),
-        Term::Name(path) => Ok(Term::Name(path)),
-        Term::Unit { segment, bits } => Ok(Term::Unit { segment, bits }),
-        Term::Skip(bits) => Ok(Term::Skip(bits)),
-        Term::Offset(bytes) => Ok(Term::Offset(bytes)),
-        Term::Access {
-            access,
-            attribute,
-            length,
-        } => Ok(Term::Access {
-            access,
-            attribute,
-            length,
-        }),
-        Term::Call { path, args } => Ok(Term::Call { path, args }),
+        other => Ok(other),
     }
 }
 

@@ -1,22 +1,22 @@
 //! Terms in which the fields of descriptors are constants.
-ghost use Rattle.std.specs.Prelude.{◌≡◌, ◌+◌, ◌++◌, ◌||◌, ℕ, List, suc, IfOk, OnOk, false};
+ghost use Rattle.std.specs.Prelude.{◌≡◌, ◌+◌, ◌++◌, ◌||◌, ℕ, List, false, suc, IfOk, OnOk};
+ghost use Rattle.acpi_state.specs.Outcomes.{choose};
 ghost use Rattle.asl_numbers.specs.Numbers.{inside, nodes as node_count};
-ghost use Rattle.asl_shape.specs.Plans.{plan_of, plans_of};
+ghost use Rattle.asl_shape.specs.Plans.{a_name, a_word, plan_of, plans_of};
+ghost use Rattle.asl_tree.specs.declared.path.Path.{Path};
 ghost use Rattle.descriptor_fields.specs.Constants as spec;
 ghost use Rattle.descriptor_fields.specs.Nodes.{SaysAt};
 ghost use Rattle.descriptor_fields.specs.Shown.{among_as};
 ghost use Rattle.descriptor_fields.specs.Values as values;
 
-use crate::nodes::{after, at_node};
+use crate::nodes::at_node;
 use crate::values::{Among, is_in_bits, is_value_in};
-use asl_tree::path::Path;
 use asl_tree::term::{Node, Term, Word};
 use iasl_messages::message::Message;
 use iasl_messages::number::FIELD_NOT_WHOLE_BYTES;
 use iasl_messages::place::Place;
 use iasl_ports::list::Text;
 use std::alloc::{AllocError, Global};
-use std::mem::replace;
 
 // Where a node stands: whether it is counted in bits, and whether it is an expression.
 #[derive(Clone, Copy)]
@@ -43,44 +43,46 @@ fn counted(bits: bool, bit: u64) -> u64
     if bits { bit } else { bit / 8 }
 }
 
-// What a use stands for.
-#[tactic(auto, using(asl_shape::proofs::Terms::name_term, asl_shape::proofs::Terms::word_term))]
-fn resolved_use(standing: Standing, name: Path, field: Option<u64>) -> Term
-    ensures { plan_of result ≡ spec.resolved_use standing.bits standing.value name field }
-{
-    match (standing.value, field) {
-        (true, Some(bit)) => Term::Word(Word::FieldPlace(counted(standing.bits, bit))),
-        _ => Term::Name(name),
-    }
-}
-
-// Tells of a field in bytes that does not begin with one.
-fn tell_broken(
+// The constant that a use is, where it is one; and what is told of a field in bytes that does not begin with one.
+fn constant(
     alloc: Global,
     faults: &mut Vec<Message>,
     standing: Standing,
     place: Place,
     field: Option<u64>,
-) -> Result<(), AllocError>
-    ensures { OnOk result (faults.new.items ≡ faults.old.items ++ spec.broken_use standing.bits standing.value place field) }
+) -> Result<Option<Word>, AllocError>
+    ensures made { IfOk result (λ made. (name : Path) →
+        choose made (a_name name) a_word ≡ spec.resolved_use standing.bits standing.value name field) }
+    ensures told { OnOk result (faults.new.items ≡ faults.old.items ++ spec.broken_use standing.bits standing.value place field) }
 {
     match (standing.value, field) {
         (true, Some(bit)) => {
+            let made = Some(Word::FieldPlace(counted(standing.bits, bit)));
             if standing.bits || bit % 8 == 0 {
-                return Ok(());
+                return Ok(made);
             }
             faults.push(Message {
                 number: FIELD_NOT_WHOLE_BYTES,
                 place,
                 name: Text::new(alloc),
             })?;
-            Ok(())
+            Ok(made)
         }
-        _ => Ok(()),
+        _ => Ok(None),
     }
 }
 
-// A term at the node with a number, and the number behind the last node inside.
+// The number behind another one. There is no memory for more nodes than 32 bits count.
+fn after(number: u32) -> Result<u32, AllocError>
+    ensures { IfOk result (λ n. n ≡ suc number) }
+{
+    match number.checked_add(1) {
+        Some(next) => Ok(next),
+        None => Err(AllocError),
+    }
+}
+
+// A term at the node with a number, where it stands; and the number behind the last node inside.
 #[cycle(resolve)]
 fn resolve_term(
     alloc: Global,
@@ -89,62 +91,39 @@ fn resolve_term(
     standing: Standing,
     node: u32,
     place: Place,
-    term: Term,
-) -> Result<(Term, u32), AllocError>
-    ensures next { IfOk result (λ r. r.1 ≡ suc node + inside (plan_of term)) }
-    ensures made { IfOk result (λ r. (said : List (ℕ × ℕ)) → SaysAt fields.now said →
-        plan_of r.0 ≡ spec.resolved said standing.bits standing.value node (plan_of term)) }
+    term: &mut Term,
+) -> Result<u32, AllocError>
+    ensures next { IfOk result (λ next. next ≡ suc node + inside (plan_of term.old)) }
+    ensures made { OnOk result ((said : List (ℕ × ℕ)) → SaysAt fields.now said →
+        plan_of term.new ≡ spec.resolved said standing.bits standing.value node (plan_of term.old)) }
     ensures told { OnOk result ((said : List (ℕ × ℕ)) → SaysAt fields.now said →
-        faults.new.items ≡ faults.old.items ++ spec.broken said standing.bits standing.value place node (plan_of term)) }
+        faults.new.items ≡ faults.old.items ++ spec.broken said standing.bits standing.value place node (plan_of term.old)) }
 {
+    let first = after(node)?;
     match term {
-        Term::Name(path) => {
-            let field = at_node(fields, node);
-            tell_broken(alloc, faults, standing, place, field)?;
-            let next = after(node)?;
-            Ok((resolved_use(standing, path, field), next))
+        Term::Name(_) => {
+            let field = at_node(fields, node as usize);
+            let made = constant(alloc, faults, standing, place, field)?;
+            match made {
+                Some(word) => *term = Term::Word(word),
+                None => {}
+            }
+            Ok(first)
         }
-        Term::Call { path, mut args } => {
-            let next = resolve_nodes(
-                alloc,
-                fields,
-                faults,
-                Among::Call,
-                standing.bits,
-                after(node)?,
-                &mut args,
-            )?;
-            Ok((Term::Call { path, args }, next))
+        Term::Call { path: _, args } => {
+            let bits = standing.bits;
+            let next = resolve_nodes(alloc, fields, faults, Among::Call, bits, first, args)?;
+            Ok(next)
         }
-        Term::Form {
-            op,
-            mut args,
-            mut body,
-        } => {
-            let next = resolve_nodes(
-                alloc,
-                fields,
-                faults,
-                Among::Arguments(op),
-                standing.bits,
-                after(node)?,
-                &mut args,
-            )?;
-            let next = resolve_nodes(
-                alloc,
-                fields,
-                faults,
-                Among::Contents(op),
-                standing.bits,
-                next,
-                &mut body,
-            )?;
-            Ok((Term::Form { op, args, body }, next))
+        Term::Form { op, args, body } => {
+            let bits = standing.bits;
+            let before = Among::Arguments(*op);
+            let within = Among::Contents(*op);
+            let next = resolve_nodes(alloc, fields, faults, before, bits, first, args)?;
+            let next = resolve_nodes(alloc, fields, faults, within, bits, next, body)?;
+            Ok(next)
         }
-        other => {
-            let next = after(node)?;
-            Ok((other, next))
-        }
+        _ => Ok(first),
     }
 }
 
@@ -166,19 +145,11 @@ fn resolve_nodes(
         faults.new.items ≡ faults.old.items ++ spec.broken_from said (among_as among) 0 bits first (plans_of nodes.old.items)) }
 {
     let mut next = first;
-    let mut at = 0;
-    while at < nodes.len() {
-        let place = nodes[at].place;
+    for at in 0..nodes.len() {
         let standing = standing_in(bits, among, at);
-        let term = replace(&mut nodes[at].term, Term::Omitted);
-        let (term, behind) = resolve_term(alloc, fields, faults, standing, next, place, term)?;
-        nodes[at] = Node {
-            id: next,
-            place,
-            term,
-        };
-        next = behind;
-        at += 1;
+        let node = &mut nodes[at];
+        let place = node.place;
+        next = resolve_term(alloc, fields, faults, standing, next, place, &mut node.term)?;
     }
     Ok(next)
 }

@@ -15,20 +15,7 @@ fn named_of(term: &Term) -> &[NamedDescriptor]
 {
     match term {
         Term::Fill { named, .. } => named.as_slice(),
-        Term::Form { .. } => &[],
-        Term::Integer(_) => &[],
-        Term::Text(_) => &[],
-        Term::Word(_) => &[],
-        Term::Local(_) => &[],
-        Term::Arg(_) => &[],
-        Term::Debug => &[],
-        Term::Omitted => &[],
-        Term::Name(_) => &[],
-        Term::Unit { .. } => &[],
-        Term::Skip(_) => &[],
-        Term::Offset(_) => &[],
-        Term::Access { .. } => &[],
-        Term::Call { .. } => &[],
+        _ => &[],
     }
 }
 
@@ -56,20 +43,7 @@ pub(crate) fn declared_by(term: &Term) -> &[NamedDescriptor]
 {
     match term {
         Term::Form { op, args, .. } => { if is_naming(*op) { value_of(args) } else { &[] } }
-        Term::Fill { .. } => &[],
-        Term::Integer(_) => &[],
-        Term::Text(_) => &[],
-        Term::Word(_) => &[],
-        Term::Local(_) => &[],
-        Term::Arg(_) => &[],
-        Term::Debug => &[],
-        Term::Omitted => &[],
-        Term::Name(_) => &[],
-        Term::Unit { .. } => &[],
-        Term::Skip(_) => &[],
-        Term::Offset(_) => &[],
-        Term::Access { .. } => &[],
-        Term::Call { .. } => &[],
+        _ => &[],
     }
 }
 
@@ -87,28 +61,7 @@ fn close(alloc: Global, term: Term) -> Result<Term, AllocError>
             }
             Ok(Term::Form { op, args, body })
         }
-        Term::Integer(number) => Ok(Term::Integer(number)),
-        Term::Text(text) => Ok(Term::Text(text)),
-        Term::Fill { bytes, named } => Ok(Term::Fill { bytes, named }),
-        Term::Word(word) => Ok(Term::Word(word)),
-        Term::Local(index) => Ok(Term::Local(index)),
-        Term::Arg(index) => Ok(Term::Arg(index)),
-        Term::Debug => Ok(Term::Debug),
-        Term::Omitted => Ok(Term::Omitted),
-        Term::Name(path) => Ok(Term::Name(path)),
-        Term::Unit { segment, bits } => Ok(Term::Unit { segment, bits }),
-        Term::Skip(bits) => Ok(Term::Skip(bits)),
-        Term::Offset(bytes) => Ok(Term::Offset(bytes)),
-        Term::Access {
-            access,
-            attribute,
-            length,
-        } => Ok(Term::Access {
-            access,
-            attribute,
-            length,
-        }),
-        Term::Call { path, args } => Ok(Term::Call { path, args }),
+        other => Ok(other),
     }
 }
 

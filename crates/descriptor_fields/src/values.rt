@@ -39,27 +39,13 @@ fn is_operand(letters: &[Letter], number: usize) -> bool
     }
 }
 
-// Behind so many paths.
-fn is_behind(first: usize, number: usize) -> bool
-    ensures { result ≡ spec.is_behind first number }
-{
-    number >= first
-}
-
-// Between so many paths and so many arguments in all.
-fn is_between(first: usize, count: usize, number: usize) -> bool
-    ensures { result ≡ spec.is_between first count number }
-{
-    number >= first && number < count
-}
-
 fn is_declared_value(declaration: Declaration, number: usize) -> bool
     ensures { result ≡ spec.is_declared_value declaration number }
 {
     match declaration {
-        Declaration::Name => is_behind(1, number),
-        Declaration::OperationRegion => is_behind(2, number),
-        Declaration::BankField => is_between(2, 3, number),
+        Declaration::Name => number >= 1,
+        Declaration::OperationRegion => number >= 2,
+        Declaration::BankField => number == 2,
         Declaration::CreateField => number < 3,
         Declaration::CreateBitField
         | Declaration::CreateByteField
@@ -78,9 +64,9 @@ fn is_value(op: Op, number: usize) -> bool
         Op::Declaration(declaration) => is_declared_value(declaration, number),
         Op::Plain(op) => is_operand(letters(op), number),
         Op::Symbolic(Symbolic::Operator(op)) => is_operand(letters(op), number),
-        Op::Symbolic(_) => is_behind(1, number),
+        Op::Symbolic(_) => number >= 1,
         Op::Special(Special::CondRefOf) => false,
-        Op::Control(Control::Fprintf) => is_behind(1, number),
+        Op::Control(Control::Fprintf) => number >= 1,
         _ => true,
     }
 }

@@ -1,23 +1,34 @@
--- What holds of each mention of a list.
-use Rattle.std.proofs.Common.{◌≡◌, Bool, true, List, [], ◌∷◌, refl, ap, ◌∙◌, arith}
+-- What holds of each of a list.
+use Rattle.std.proofs.Common.{Bool, true, false, List, [], ◌∷◌, ◌++◌, arith}
 use Rattle.std.specs.Prelude.{if◌then◌else◌, filter}
 use Rattle.std.specs.List.{All}
 use Rattle.std.proofs.lemmas.List.Elements.{All-cons}
-use Rattle.acpi_names.specs.Mentions.{Mention}
 
-abbrev pub Each : (Mention → Type 0) → List Mention → Type 0
+abbrev pub Each : {A : Type 0} → (A → Type 0) → List A → Type 0
 Each P [] = Unit {0}
-Each P (m ∷ ms) = P m × Each P ms
+Each P (x ∷ xs) = P x × Each P xs
 
-pub each_mapped : (P Q : Mention → Type 0) → ((m : Mention) → P m → Q m) → (ms : List Mention) → Each P ms → Each Q ms
-each_mapped P Q f [] h = tt
-each_mapped P Q f (m ∷ ms) h = (f m h.0, each_mapped P Q f ms h.1)
+module _ {A : Type 0} (P : A → Type 0) where
+  pub each_both : (xs ys : List A) → Each P xs → Each P ys → Each P (xs ++ ys)
+  each_both [] ys h k = k
+  each_both (x ∷ xs) ys h k = (h.0, each_both xs ys h.1 k)
 
--- each passes a test
-pub all_kept : (test : Mention → Bool) (ms : List Mention) → Each (λ m. test m ≡ true) ms → filter test ms ≡ ms
-all_kept test [] h = refl
-all_kept test (m ∷ ms) h = ap (λ b. if b then m ∷ filter test ms else filter test ms) h.0 ∙ ap (λ ns. m ∷ ns) (all_kept test ms h.1)
+  pub each_unless : (b : Bool) (xs : List A) → Each P xs → Each P (if b then [] else xs)
+  each_unless true xs h = tt
+  each_unless false xs h = h
 
-pub each_all : (P : Mention → Type 0) (ms : List Mention) → Each P ms → All P ms
-each_all P [] h = λ i m lt. absurd (omega (arith, lt))
-each_all P (m ∷ ms) h = All-cons P m ms h.0 (each_all P ms h.1)
+  pub each_kept : (test : A → Bool) (xs : List A) → Each P xs → Each P (filter test xs)
+  each_kept test [] h = tt
+  each_kept test (x ∷ xs) h = by_test (test x) (each_kept test xs h.1)
+    where
+      by_test : (b : Bool) → Each P (filter test xs) → Each P (if b then x ∷ filter test xs else filter test xs)
+      by_test true k = (h.0, k)
+      by_test false k = k
+
+  pub each_of : ((x : A) → P x) → (xs : List A) → Each P xs
+  each_of h [] = tt
+  each_of h (x ∷ xs) = (h x, each_of h xs)
+
+  pub each_all : (xs : List A) → Each P xs → All P xs
+  each_all [] h = λ i m lt. absurd (omega (arith, lt))
+  each_all (x ∷ xs) h = All-cons P x xs h.0 (each_all xs h.1)

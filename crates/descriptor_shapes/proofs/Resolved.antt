@@ -1,19 +1,157 @@
--- A formed program is formed where fields of descriptors are constants.
-use Rattle.std.proofs.Common.{ℕ, false, refl}
-use Rattle.asl_shape.specs.Plans.{Plans}
-use Rattle.asl_numbers.specs.Numbers.{numbered_all}
-use Rattle.named_sessions.specs.Shaped.{AreFormed, AreNamed}
-use Rattle.descriptor_fields.specs.Declaring.{declaring}
-use Rattle.descriptor_fields.specs.Values.{OfCall}
-use Rattle.descriptor_checks.specs.Resolved.{fields_of, resolved_terms}
-use Rattle.descriptor_shapes.proofs.Again.{all_again}
-use Rattle.descriptor_shapes.proofs.Formed.{all_formed}
-use Rattle.descriptor_shapes.proofs.Own.{own}
-use Rattle.descriptor_shapes.proofs.Uses.{AllResolve, all_like}
+-- The terms of a program with those that declare its descriptors, in which fields are constants: these can be taken out again, and what is
+-- left are the program's own terms, in which fields are constants.
+use Rattle.std.proofs.Common.{◌≡◌, ℕ, suc, ◌+◌, Bool, true, false, List, [], ◌∷◌, Option, Some, None, refl, sym, subst, ap, ◌∙◌, arith}
+use Rattle.std.specs.Prelude.{◌||◌, if◌then◌else◌}
+use Rattle.iasl_messages.specs.declared.place.Place.{Place}
+use Rattle.asl_tree.specs.declared.path.Path.{Path}
+use Rattle.asl_tree.specs.declared.term.Op.{Op}
+use Rattle.asl_tree.specs.declared.term.Special.TheVariants as Special
+use Rattle.asl_tree.specs.declared.term.Declaration.TheVariants as Declaration
+use Rattle.asl_tree.specs.declared.term.NamedDescriptor.{NamedDescriptor}
+use Rattle.asl_tree.specs.Tree.{At, Trees}
+use Rattle.asl_tree.specs.View.{form}
+use Rattle.asl_shape.specs.Plans.{Plan, a_fill, a_name, a_call, a_form, Plans, no_plans, plan, plan_at, join}
+use Rattle.asl_shape.specs.Descriptors.{named_of}
+use Rattle.asl_numbers.specs.Numbers.{inside, nodes, numbered, numbered_all}
+use Rattle.descriptor_fields.specs.Declaring.{has_terms, names_inside, declaration, declarations, alone, beside, is_first, opened, declaring, is_naming, declared_by, closed, stripped}
+use Rattle.descriptor_fields.specs.Values.{Among, Arguments, Contents, OfCall, has_values, is_value_in, is_in_bits}
+use Rattle.descriptor_fields.specs.Constants.{resolved_use, resolved, resolved_from}
+use Rattle.descriptor_fields.specs.Nodes.{at_node}
+use Rattle.descriptor_checks.specs.Resolved.{fields_of, checked_terms, resolved_terms}
+use Rattle.unused_names.specs.Bare.{nowhere}
+use Rattle.stripped_names.specs.Whole.{IsShaped, Describes, Where, IsWhole, AreWhole}
+use Rattle.descriptor_shapes.proofs.Like.{Like, LikeMisshapen}
+use Rattle.descriptor_shapes.proofs.Formed.{IsProgram, all_formed}
+use Rattle.descriptor_shapes.proofs.Uses.{Resolves, Stays, Becomes, InCall, InForm, AllResolve, NoneResolve, MoreResolve, Anywhere, all_resolve, like, all_like}
+use Rattle.descriptor_shapes.proofs.Bodies.{IsTerm, AreTerms, Terms, first_term, term_shaped, Fuller, Empty, Full, body_terms, no_bytes}
 
--- the block's own terms, in which fields are constants
-pub own_resolved : (next : ℕ) (ps : Plans) → AreFormed (Unit {0}) AreNamed (Unit {0}) (Unit {0}) (numbered_all next ps) → AllResolve OfCall 0 ps (resolved_terms ps)
-own_resolved next ps h = all_again (fields_of (declaring ps)) OfCall (λ k. refl) 0 0 false 0 ps (own ps next h)
+-- terms stand where names are expressions
+terms_are_values : (op : Op) → has_terms op ≡ true → has_values op ≡ true
+terms_are_values op e = grind arith
 
-pub resolved_formed : (next : ℕ) (ps : Plans) → AreFormed (Unit {0}) AreNamed (Unit {0}) (Unit {0}) (numbered_all next ps) → AreFormed (Unit {0}) AreNamed (Unit {0}) (Unit {0}) (numbered_all next (resolved_terms ps))
-resolved_formed next ps h = all_formed (Unit {0}) (Unit {0}) (Unit {0}) (all_like next next (own_resolved next ps h)) h
+join_again : (ps qs rs : Plans) → join (join ps qs) rs ≡ join ps (join qs rs)
+join_again no_plans qs rs = refl
+join_again (plan place p ps) qs rs = ap (plan place p) (join_again ps qs rs)
+
+shaped_like : {value : Bool} {t u : _} → Like Anywhere value t u → IsShaped t → IsShaped u
+shaped_like LikeMisshapen h = h
+shaped_like _ h = tt
+
+-- ---- what terms come to
+
+-- a term declares nothing, is one of the program's with its body closed again, and can be taken apart
+abbrev Comes : Bool → Plan → Plan → Type 0
+Comes value p q = (declared_by q ≡ []) × Resolves Anywhere value p (closed q) × IsWhole q
+
+abbrev AllCome : Among → ℕ → Plans → Plans → Type 0
+AllCome among n ps qs = AllResolve Anywhere among n ps (stripped qs) × AreWhole qs
+
+use_comes : (bits value : Bool) (name : Path) (field : Option ℕ) → Comes value (a_name name) (resolved_use bits value name field)
+use_comes bits true name (Some bit) = (refl, Becomes name _, tt)
+use_comes bits true name None = (refl, Stays (a_name name) tt, tt)
+use_comes bits false name field = (refl, Stays (a_name name) tt, tt)
+
+use_none : (bits value : Bool) (name : Path) (field : Option ℕ) → (named_of (resolved_use bits value name field) ≡ []) × Describes (resolved_use bits value name field)
+use_none bits true name (Some bit) = (refl, tt)
+use_none bits _ name _ = (refl, tt)
+
+module _ (fields : List (ℕ × ℕ)) where
+  -- no term of the program declares a descriptor, and no value of a Name is bytes
+  none_declared : (op : Op) (args more : Plans) (at : At) (next : ℕ) (bs : Trees) (bits : Bool) (node : ℕ) → IsTerm (form at op (numbered_all next args) bs)
+      → let others = resolved_from fields (Arguments op) 0 bits node args in (declared_by (a_form op others more) ≡ []) × Where (is_naming op) (Describes (plan_at others 1))
+  unfolding numbered numbered_all
+  none_declared (Op.Declaration Declaration.Name) (plan place p (plan there (a_fill bytes named) ps)) more at next bs bits node h = absurd (no_bytes at _ bytes _ bs h)
+  none_declared (Op.Declaration Declaration.Name) (plan place p (plan there (a_name name) ps)) more at next bs bits node h = use_none (bits || false) true name (at_node fields (suc (node + inside p)))
+  none_declared (Op.Declaration Declaration.Name) (plan place p (plan there q ps)) more at next bs bits node h = (refl, tt)
+  none_declared _ args more at next bs bits node h = (refl, tt)
+
+  module _ (among : Among) (values : (k : ℕ) → is_value_in among k ≡ true) (bits : Bool) where
+    abbrev TermComes : Plan → Plan → Type 0
+    TermComes p q = (n node : ℕ) → Comes (is_value_in among n) p (resolved fields (bits || is_in_bits among n) (is_value_in among n) node q)
+
+    abbrev Come : ℕ → Plans → Plans → Type 0
+    Come i ps qs = (n node : ℕ) → AllCome among i ps (resolved_from fields among n bits node qs)
+
+    names_come : (names : List NamedDescriptor) (i : ℕ) (ps qs : Plans) → Come i ps qs → Come i ps (join (declarations names) qs)
+    unfolding numbered numbered_all
+    names_come [] i ps qs go n node = go n node
+    names_come (named ∷ names) i ps qs go n node = let k = names_come names i ps qs go (suc n) (suc (node + inside (declaration named))) in (k.0, ((tt, (tt, tt)), k.1))
+
+    term_comes : (i : ℕ) (place : Place) (p q : Plan) (ps qs : Plans) → TermComes p q → Come (suc i) ps qs → Come i (plan place p ps) (plan place q qs)
+    term_comes i place p q ps qs term rest n node =
+        let here : Plan = resolved fields (bits || is_in_bits among n) (is_value_in among n) node q in
+        let h : Comes (is_value_in among n) p here = term n node in
+        let k : AllCome among (suc i) ps (resolved_from fields among (suc n) bits (suc (node + inside q)) qs) = rest (suc n) (suc (node + inside q)) in
+        (rw h.0 (MoreResolve tt (subst (λ value. Resolves Anywhere value p (closed here)) (values n ∙ sym (values i)) h.1) k.0), (h.2, k.1))
+
+    beside_come : (b : Bool) (names : List NamedDescriptor) (i : ℕ) (place : Place) (p q : Plan) (ps qs : Plans) → TermComes p q → Come (suc i) ps qs
+        → Come i (plan place p ps) (join (beside b (declarations names) (alone place q)) qs)
+    beside_come true names i place p q ps qs term rest = term_comes i place p q ps (join (declarations names) qs) term (names_come names (suc i) ps qs rest)
+    beside_come false names i place p q ps qs term rest =
+        rw (join_again (declarations names) (alone place q) qs) (names_come names i (plan place p ps) (plan place q qs) (term_comes i place p q ps qs term rest))
+
+  -- a form, by whether terms stand in its body
+  module _ (bits value : Bool) (node : ℕ) (op : Op) (args body : Plans) (at : At) (next : ℕ) (h : IsTerm (numbered at next (a_form op args body))) where
+    abbrev others : Plans
+    others = resolved_from fields (Arguments op) 0 bits (suc node) args
+
+    abbrev more : Plans → Plans
+    more ps = resolved_from fields (Contents op) 0 bits (suc node + nodes args) ps
+
+    given : AllResolve Anywhere (Arguments op) 0 args others
+    given = all_resolve fields (Arguments op) 0 bits (suc node) args
+
+    fuller : (ps : Plans) (n m : ℕ) → Fuller (numbered_all n ps) (numbered_all m (more (declaring ps)))
+    unfolding numbered_all
+    fuller no_plans n m = Empty
+    fuller (plan place p ps) n m = Full _ _ _
+
+    form_comes : (b : Bool) → has_terms op ≡ b → (((k : ℕ) → is_value_in (Contents op) k ≡ true) → AreTerms (numbered_all (next + nodes args) body) → AllCome (Contents op) 0 body (more (declaring body)))
+        → Resolves Anywhere value (a_form op args body) (a_form op others (if b then stripped (more (if b then declaring body else body)) else more (if b then declaring body else body)))
+        × IsShaped (numbered nowhere 0 (a_form op others (more (if b then declaring body else body)))) × Where b (AreWhole (more (if b then declaring body else body)))
+    unfolding numbered
+    form_comes true e go =
+        let k : AreTerms (numbered_all (next + nodes args) body) × IsShaped (numbered nowhere 0 (a_form op others (more (declaring body)))) =
+        body_terms at nowhere op (all_like Anywhere next 0 given) e (fuller body (next + nodes args) (0 + nodes others)) h in
+        let inner : AllCome (Contents op) 0 body (more (declaring body)) = go (λ k. terms_are_values op e) k.0 in
+        (InForm op given inner.0, k.1, inner.1)
+    form_comes false e go =
+        let same : Resolves Anywhere value (a_form op args body) (a_form op others (more body)) = InForm op given (all_resolve fields (Contents op) 0 bits (suc node + nodes args) body) in
+        (same, shaped_like (like Anywhere at nowhere next 0 tt same) (term_shaped (numbered at next (a_form op args body)) h), tt)
+
+  mutual
+    unfolding numbered numbered_all
+
+    comes : (bits value : Bool) (node : ℕ) (p : Plan) (at : At) (next : ℕ) → IsTerm (numbered at next p) → Comes value p (resolved fields bits value node (opened p))
+    comes bits value node (a_name name) at next h = use_comes bits value name (at_node fields node)
+    comes bits value node (a_call name args) at next h = (refl, InCall name (all_resolve fields OfCall 0 bits (suc node) args), tt)
+    comes bits value node (a_form op args body) at next h =
+        let f = form_comes bits value node op args body at next h (has_terms op) refl
+        (λ values k. all_come (Contents op) values bits 0 0 (suc node + nodes args) body (next + nodes args) k) in
+        let none = none_declared op args (resolved_from fields (Contents op) 0 bits (suc node + nodes args) (if has_terms op then declaring body else body)) at next (numbered_all (next + nodes args) body) bits (suc node) h in
+        (none.0, f.0, (f.1, (none.1, f.2)))
+    comes bits value node p at next h = (refl, Stays p tt, tt)
+
+    pub all_come : (among : Among) → ((k : ℕ) → is_value_in among k ≡ true) → (bits : Bool) (i n node : ℕ) (ps : Plans) (next : ℕ) → AreTerms (numbered_all next ps)
+        → AllCome among i ps (resolved_from fields among n bits node (declaring ps))
+    all_come among values bits i n node no_plans next h = (NoneResolve, tt)
+    all_come among values bits i n node (plan place p ps) next h =
+        let here : At = record { id = next; place = place } in
+        let k = first_term (numbered here (suc next) p) (numbered_all (suc (next + inside p)) ps) h in
+        beside_come among values bits (is_first p) (names_inside p) i place p (opened p) ps (declaring ps)
+        (λ m other. comes (bits || is_in_bits among m) (is_value_in among m) other p here (suc next) k.0)
+        (λ m other. all_come among values bits (suc i) m other ps (suc (next + inside p)) k.1) n node
+
+-- ---- the block
+
+module _ (next : ℕ) (ps : Plans) (h : IsProgram (numbered_all next ps)) where
+  come : AllCome OfCall 0 ps (checked_terms ps)
+  come = all_come (fields_of (declaring ps)) OfCall (λ k. refl) false 0 0 0 ps next (Terms h)
+
+  -- a formed program is formed where fields of descriptors are constants
+  pub resolved_formed : IsProgram (numbered_all next (resolved_terms ps))
+  resolved_formed = all_formed Anywhere (all_like Anywhere next next come.0) h
+
+  -- and its terms with those that declare descriptors can be taken apart again
+  pub checked_whole : AreWhole (checked_terms ps)
+  checked_whole = come.1

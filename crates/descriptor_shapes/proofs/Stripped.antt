@@ -10,20 +10,19 @@ use Rattle.acpi_names.specs.Tables.{Tabled}
 use Rattle.acpi_names.specs.Terms.{are_terms}
 use Rattle.asl_shape.specs.Plans.{Plans}
 use Rattle.asl_numbers.specs.Numbers.{numbered_all}
-use Rattle.named_sessions.specs.Shaped.{AreFormed, AreNamed}
-use Rattle.descriptor_checks.specs.Resolved.{mentions_of, names_of, table_of, checked_terms, resolved_terms}
+use Rattle.descriptor_checks.specs.Resolved.{table_of, checked_terms, resolved_terms}
 use Rattle.descriptor_checks.specs.Told.{checked_trees, names_told, kinds_told}
 use Rattle.unused_names.specs.Left.{DescriptorsAreApart}
 use Rattle.stripped_names.proofs.Apart.{untold_apart}
 use Rattle.stripped_names.proofs.Forgotten.{forgotten_index}
 use Rattle.stripped_names.proofs.Right.{stripped_names, stripped_kinds, stripped_calls}
 use Rattle.stripped_names.specs.Whole.{AreWhole}
-use Rattle.descriptor_shapes.proofs.Each.{each_all}
+use Rattle.descriptor_shapes.proofs.Formed.{IsProgram}
 use Rattle.descriptor_shapes.proofs.Terms.{checked_are_terms}
-use Rattle.descriptor_shapes.proofs.Untold.{IsOfNone, untold_names, untold_kinds, untold_uses, untold_below}
-use Rattle.descriptor_shapes.proofs.Whole.{checked_whole}
+use Rattle.descriptor_shapes.proofs.Untold.{untold_names, untold_kinds, untold_uses, untold_below}
+use Rattle.descriptor_shapes.proofs.Resolved.{checked_whole}
 
-module _ (next : ℕ) (ps : Plans) (formed : AreFormed (Unit {0}) AreNamed (Unit {0}) (Unit {0}) (numbered_all next ps)) (names : names_told ps ≡ []) (kinds : kinds_told ps ≡ []) where
+module _ (next : ℕ) (ps : Plans) (formed : IsProgram (numbered_all next ps)) (names : names_told ps ≡ []) (kinds : kinds_told ps ≡ []) where
   whole : AreWhole (checked_terms ps)
   whole = checked_whole next ps formed
 
@@ -34,7 +33,7 @@ module _ (next : ℕ) (ps : Plans) (formed : AreFormed (Unit {0}) AreNamed (Unit
   right = untold_names ps are names kinds
 
   apart : DescriptorsAreApart (checked_trees ps)
-  apart = let all = checked_terms ps in untold_apart all whole (each_all (IsOfNone (names_of all) (table_of all)) (mentions_of all) (untold_uses ps kinds)) (untold_below ps names)
+  apart = untold_apart (checked_terms ps) whole (untold_uses ps kinds) (untold_below ps names)
 
   pub resolved_names : name_errors (numbered_all 0 (resolved_terms ps)) ≡ []
   resolved_names = stripped_names (checked_terms ps) whole are right apart

@@ -1,14 +1,13 @@
--- A block of which nothing is told.
-use Rattle.std.proofs.Common.{◌≡◌, Bool, true, List, [], ◌∷◌, ◌++◌, refl, sym, ap, ◌∙◌}
-use Rattle.std.specs.Prelude.{not, if◌then◌else◌, map, filter, Option}
+-- A block of whose mentions none is of a descriptor or of a field of one, as in one of which nothing is told.
+use Rattle.std.proofs.Common.{◌≡◌, Bool, true, List, [], ◌∷◌, ◌++◌, refl, sym, ap, ◌∙◌, arith}
+use Rattle.std.specs.Prelude.{map, filter, Option}
+use Rattle.std.specs.List.{All}
+use Rattle.std.proofs.lemmas.List.{append-nil}
 use Rattle.acpi_values.specs.Paths.{AbsolutePath}
-use Rattle.iasl_messages.specs.declared.message.Message.{Message}
-use Rattle.asl_tree.specs.Tree.{At}
-use Rattle.asl_tree.specs.declared.path.Path.{Path}
 use Rattle.asl_tree.specs.declared.term.NamedDescriptor.{NamedDescriptor}
 use Rattle.asl_meaning.specs.Declarations.{nothing_declared}
-use Rattle.acpi_names.specs.Errors.{NameError, Asked, Anything, AnObject, AValue, AMutex, AnEvent, AUnit, ARegion, whole_of, name_errors, type_errors}
-use Rattle.acpi_names.specs.Mentions.{Mention, Used', Sought, Called, Declares, Outside, Opens, all_errors, all_types}
+use Rattle.acpi_names.specs.Errors.{NameError, whole_of, name_errors, type_errors}
+use Rattle.acpi_names.specs.Mentions.{Mention, all_errors, all_types}
 use Rattle.acpi_names.specs.Terms.{are_terms}
 use Rattle.acpi_names.proofs.MentionErrors.{block_errors}
 use Rattle.acpi_names.proofs.MentionTypes.{block_types}
@@ -16,108 +15,110 @@ use Rattle.asl_numbers.specs.Numbers.{numbered_all}
 use Rattle.asl_shape.specs.Plans.{Plans}
 use Rattle.name_checks.specs.Messages.{message_of}
 use Rattle.descriptor_fields.specs.Declaring.{declaring}
-use Rattle.descriptor_checks.specs.Senses.{Sense, Nothing, ADescriptor, AField, sense_of}
-use Rattle.descriptor_checks.specs.Resolved.{mentions_of, names_of, table_of, checked_terms, broken_fields}
-use Rattle.descriptor_checks.specs.Told.{is_nothing, is_field_sense, fault_asked, all_below, sense_in, is_no_field, is_of_no_descriptor, use_faults, all_use_faults, names_wrong, fields_wrong, kinds_wrong, checked_trees, names_told, kinds_told}
-use Rattle.descriptor_shapes.proofs.Each.{Each, each_mapped, all_kept}
-
--- ---- nothing in a list
-
-no_left : {A : Type 0} (xs ys : List A) → xs ++ ys ≡ [] → xs ≡ []
-no_left [] ys e = refl
-no_left (x ∷ xs) ys e = absurd cc
-
-no_right : {A : Type 0} (xs ys : List A) → xs ++ ys ≡ [] → ys ≡ []
-no_right [] ys e = e
-no_right (x ∷ xs) ys e = absurd cc
+use Rattle.descriptor_checks.specs.Senses.{Nothing}
+use Rattle.descriptor_checks.specs.Resolved.{fields_by, fields_in, mentions_of, names_of, table_of, checked_terms, broken_fields}
+use Rattle.descriptor_checks.specs.Told.{sense_in, all_below, is_no_field, is_of_no_descriptor, all_field_errors, use_faults, all_use_faults, field_owners, names_wrong, fields_wrong, kinds_wrong, checked_trees, names_told, kinds_told}
+use Rattle.unused_names.proofs.Errors.{left_none, right_none}
+use Rattle.descriptor_shapes.proofs.Each.{Each, each_all}
 
 no_errors : (es : List NameError) → map message_of es ≡ [] → es ≡ []
 no_errors [] e = refl
 no_errors (x ∷ es) e = absurd cc
 
--- ---- a use of a descriptor and of a field of one has a fault
-
-asked_some : (asked : Asked) (at : At) (name : Path) → fault_asked asked at name ≡ [] → ⊥
-asked_some Anything at name e = absurd cc
-asked_some AnObject at name e = absurd cc
-asked_some AValue at name e = absurd cc
-asked_some AMutex at name e = absurd cc
-asked_some AnEvent at name e = absurd cc
-asked_some AUnit at name e = absurd cc
-asked_some (ARegion field) at name e = absurd cc
-
-by_fault : (s : Sense) (fault : List Message) → (fault ≡ [] → ⊥) → (if is_nothing s then [] else fault) ≡ [] → s ≡ Nothing
-by_fault Nothing fault some e = refl
-by_fault ADescriptor fault some e = absurd (some e)
-by_fault (AField bit) fault some e = absurd (some e)
+-- ---- mentions of none
 
 module _ (has : AbsolutePath → Bool) (look : AbsolutePath → Option NamedDescriptor) where
   abbrev pub IsOfNone : Mention → Type 0
   IsOfNone m = sense_in has look m ≡ Nothing
 
-  no_sense : (m : Mention) → use_faults has look m ≡ [] → IsOfNone m
-  no_sense (Used' asked at name scope) e = by_fault (sense_of has look name scope) (fault_asked asked at name) (asked_some asked at name) e
-  no_sense (Sought at name scope) e = by_fault (sense_of has look name scope) _ (λ k. absurd cc) e
-  no_sense (Called asked at name args scope) e = by_fault (sense_of has look name scope) _ (λ k. absurd cc) e
-  no_sense (Opens here at name scope inner) e = by_fault (sense_of has look name scope) _ (λ k. absurd cc) e
-  no_sense (Declares at name as' scope) e = refl
-  no_sense (Outside here at name type scope) e = refl
+  -- all are kept where fields or descriptors are left out, and nothing is told of them
+  pub record AreNothing (ms : List Mention) : Type 0 where
+    pub no_fields : filter (is_no_field has look) ms ≡ ms
+    pub no_descriptors : filter (is_of_no_descriptor has look) ms ≡ ms
+    pub fields : fields_in has look ms ≡ []
+    pub errors : all_field_errors has look ms ≡ []
+    pub faults : all_use_faults has look ms ≡ []
+    pub owners : field_owners has look ms ≡ []
 
-  no_senses : (ms : List Mention) → all_use_faults has look ms ≡ [] → Each IsOfNone ms
+  fields_none : (m : Mention) → IsOfNone m → fields_by has look m ≡ []
+  fields_none m h = grind arith
+
+  pub are_nothing : (ms : List Mention) → Each IsOfNone ms → AreNothing ms
+  are_nothing [] h = record { no_fields = refl; no_descriptors = refl; fields = refl; errors = refl; faults = refl; owners = refl }
+  are_nothing (m ∷ ms) h =
+      let k : AreNothing ms = are_nothing ms h.1 in
+      record {
+        no_fields = rw (h.0, k.no_fields);
+        no_descriptors = rw (h.0, k.no_descriptors);
+        fields = rw (fields_none m h.0) k.fields;
+        errors = rw h.0 k.errors;
+        faults = rw h.0 k.faults;
+        owners = rw h.0 k.owners;
+      }
+
+  -- a use of a descriptor and of a field of one has a fault
+  no_sense : (m : Mention) → use_faults has look m ≡ [] → IsOfNone m
+  no_sense m e = grind arith
+
+  no_senses : (ms : List Mention) → all_use_faults has look ms ≡ [] → Each (IsOfNone) ms
   no_senses [] e = tt
   no_senses (m ∷ ms) e =
-      (no_sense m (no_left (use_faults has look m) (all_use_faults has look ms) e), no_senses ms (no_right (use_faults has look m) (all_use_faults has look ms) e))
+      (no_sense m (left_none (use_faults has look m) (all_use_faults has look ms) e), no_senses ms (right_none (use_faults has look m) (all_use_faults has look ms) e))
 
-  no_fields : (ms : List Mention) → Each IsOfNone ms → filter (is_no_field has look) ms ≡ ms
-  no_fields ms h = all_kept (is_no_field has look) ms (each_mapped IsOfNone (λ m. is_no_field has look m ≡ true) (λ m e. ap (λ s. not (is_field_sense s)) e) ms h)
-
-  no_descriptors : (ms : List Mention) → Each IsOfNone ms → filter (is_of_no_descriptor has look) ms ≡ ms
-  no_descriptors ms h = all_kept (is_of_no_descriptor has look) ms (each_mapped IsOfNone (λ m. is_of_no_descriptor has look m ≡ true) (λ m e. ap is_nothing e) ms h)
-
--- ---- terms with those that declare descriptors
+-- ---- terms of which this holds
 
 module _ (ps : Plans) where
-  kinds_none : kinds_wrong ps ≡ [] → Each (IsOfNone (names_of ps) (table_of ps)) (mentions_of ps)
-  kinds_none e = no_senses (names_of ps) (table_of ps) (mentions_of ps) (no_right (map message_of (all_types (whole_of (numbered_all 0 ps)) (filter (is_of_no_descriptor (names_of ps) (table_of ps)) (mentions_of ps)))) (all_use_faults (names_of ps) (table_of ps) (mentions_of ps)) e)
+  abbrev pub HaveNone : Type 0
+  HaveNone = AreNothing (names_of ps) (table_of ps) (mentions_of ps)
 
-  names_right : are_terms (numbered_all 0 ps) ≡ true → names_wrong ps ≡ [] → kinds_wrong ps ≡ [] → name_errors (numbered_all 0 ps) ≡ []
-  names_right are names kinds =
+  pub names_are : HaveNone → are_terms (numbered_all 0 ps) ≡ true → names_wrong ps ≡ name_errors (numbered_all 0 ps) ++ all_below (table_of ps) (mentions_of ps)
+  names_are none are =
       let whole = whole_of (numbered_all 0 ps) in
-      block_errors whole (numbered_all 0 ps) are [] nothing_declared
-      ∙ sym (ap (λ ms. all_errors whole ms nothing_declared) (no_fields (names_of ps) (table_of ps) (mentions_of ps) (kinds_none kinds)))
-      ∙ no_left (all_errors whole (filter (is_no_field (names_of ps) (table_of ps)) (mentions_of ps)) nothing_declared) (all_below (table_of ps) (mentions_of ps)) names
+      ap (λ ms. all_errors whole ms nothing_declared ++ all_below (table_of ps) (mentions_of ps)) none.no_fields
+      ∙ ap (λ es. es ++ all_below (table_of ps) (mentions_of ps)) (sym (block_errors whole (numbered_all 0 ps) are [] nothing_declared))
 
-  kinds_right : are_terms (numbered_all 0 ps) ≡ true → names_wrong ps ≡ [] → kinds_wrong ps ≡ [] → type_errors (numbered_all 0 ps) ≡ []
-  kinds_right are names kinds =
+  pub kinds_are : HaveNone → are_terms (numbered_all 0 ps) ≡ true → name_errors (numbered_all 0 ps) ≡ [] → kinds_wrong ps ≡ map message_of (type_errors (numbered_all 0 ps))
+  kinds_are none are right =
       let whole = whole_of (numbered_all 0 ps) in
-      let kept = filter (is_of_no_descriptor (names_of ps) (table_of ps)) (mentions_of ps) in
-      block_types whole (numbered_all 0 ps) are [] nothing_declared (names_right are names kinds)
-      ∙ sym (ap (λ ms. all_types whole ms) (no_descriptors (names_of ps) (table_of ps) (mentions_of ps) (kinds_none kinds)))
-      ∙ no_errors (all_types whole kept) (no_left (map message_of (all_types whole kept)) (all_use_faults (names_of ps) (table_of ps) (mentions_of ps)) kinds)
+      ap (λ ms. map message_of (all_types whole ms) ++ all_use_faults (names_of ps) (table_of ps) (mentions_of ps)) none.no_descriptors
+      ∙ ap (λ ms. map message_of (all_types whole (mentions_of ps)) ++ ms) none.faults ∙ append-nil (map message_of (all_types whole (mentions_of ps)))
+      ∙ ap (map message_of) (sym (block_types whole (numbered_all 0 ps) are [] nothing_declared right))
 
-  below_right : names_wrong ps ≡ [] → all_below (table_of ps) (mentions_of ps) ≡ []
-  below_right names =
-      no_right (all_errors (whole_of (numbered_all 0 ps)) (filter (is_no_field (names_of ps) (table_of ps)) (mentions_of ps)) nothing_declared) (all_below (table_of ps) (mentions_of ps)) names
-
--- ---- a block
+-- ---- a block of which nothing is told
 
 module _ (ps : Plans) where
-  no_names_wrong : names_told ps ≡ [] → names_wrong (checked_terms ps) ≡ []
-  no_names_wrong e = no_left (names_wrong (checked_terms ps)) (fields_wrong (declaring ps)) (no_errors (names_wrong (checked_terms ps) ++ fields_wrong (declaring ps)) e)
+  abbrev all : Plans
+  all = checked_terms ps
 
-  no_kinds_wrong : kinds_told ps ≡ [] → kinds_wrong (checked_terms ps) ≡ []
-  no_kinds_wrong e = no_left (kinds_wrong (checked_terms ps)) (broken_fields ps) e
+  module _ (kinds : kinds_told ps ≡ []) where
+    no_kinds_wrong : kinds_wrong all ≡ []
+    no_kinds_wrong = left_none (kinds_wrong all) (broken_fields ps) kinds
 
-  pub untold_names : are_terms (checked_trees ps) ≡ true → names_told ps ≡ [] → kinds_told ps ≡ [] → name_errors (checked_trees ps) ≡ []
-  untold_names are names kinds = names_right (checked_terms ps) are (no_names_wrong names) (no_kinds_wrong kinds)
+    uses : Each (IsOfNone (names_of all) (table_of all)) (mentions_of all)
+    uses =
+        let types = all_types (whole_of (checked_trees ps)) (filter (is_of_no_descriptor (names_of all) (table_of all)) (mentions_of all)) in
+        no_senses (names_of all) (table_of all) (mentions_of all) (right_none (map message_of types) (all_use_faults (names_of all) (table_of all) (mentions_of all)) no_kinds_wrong)
 
-  pub untold_kinds : are_terms (checked_trees ps) ≡ true → names_told ps ≡ [] → kinds_told ps ≡ [] → type_errors (checked_trees ps) ≡ []
-  untold_kinds are names kinds = kinds_right (checked_terms ps) are (no_names_wrong names) (no_kinds_wrong kinds)
+    -- no mention denotes a descriptor or a field of one
+    pub untold_uses : All (IsOfNone (names_of all) (table_of all)) (mentions_of all)
+    untold_uses = each_all (IsOfNone (names_of all) (table_of all)) (mentions_of all) uses
 
-  -- no mention denotes a descriptor or a field of one
-  pub untold_uses : kinds_told ps ≡ [] → Each (IsOfNone (names_of (checked_terms ps)) (table_of (checked_terms ps))) (mentions_of (checked_terms ps))
-  untold_uses kinds = kinds_none (checked_terms ps) (no_kinds_wrong kinds)
+    none : HaveNone all
+    none = are_nothing (names_of all) (table_of all) (mentions_of all) uses
 
-  -- nothing is declared directly below one
-  pub untold_below : names_told ps ≡ [] → all_below (table_of (checked_terms ps)) (mentions_of (checked_terms ps)) ≡ []
-  untold_below names = below_right (checked_terms ps) (no_names_wrong names)
+  module _ (names : names_told ps ≡ []) where
+    no_names_wrong : names_wrong all ≡ []
+    no_names_wrong = left_none (names_wrong all) (fields_wrong (declaring ps)) (no_errors (names_wrong all ++ fields_wrong (declaring ps)) names)
+
+    -- nothing is declared directly below one
+    pub untold_below : all_below (table_of all) (mentions_of all) ≡ []
+    untold_below =
+        let errors = all_errors (whole_of (checked_trees ps)) (filter (is_no_field (names_of all) (table_of all)) (mentions_of all)) nothing_declared in
+        right_none errors (all_below (table_of all) (mentions_of all)) no_names_wrong
+
+  module _ (are : are_terms (checked_trees ps) ≡ true) (names : names_told ps ≡ []) (kinds : kinds_told ps ≡ []) where
+    pub untold_names : name_errors (checked_trees ps) ≡ []
+    untold_names = left_none (name_errors (checked_trees ps)) (all_below (table_of all) (mentions_of all)) (sym (names_are all (none kinds) are) ∙ no_names_wrong names)
+
+    pub untold_kinds : type_errors (checked_trees ps) ≡ []
+    untold_kinds = no_errors (type_errors (checked_trees ps)) (sym (kinds_are all (none kinds) are untold_names) ∙ no_kinds_wrong kinds)

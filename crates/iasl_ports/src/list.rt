@@ -96,16 +96,22 @@ impl<T> List<T> {
 /// The most bytes of a text that takes no memory.
 const INLINE: usize = 14;
 
+/// The most bytes of a text that takes one piece of memory; with what the allocator keeps for itself that piece has 64 bytes.
+const BOXED: usize = 56;
+
 /// Where the bytes of a text are.
 #[derive(Drop)]
 enum Bytes {
     /// In the text itself: the first of these, so many.
     Inline { bytes: [u8; INLINE], count: u8 },
+    /// In a box: the first of these, so many.
+    Boxed { count: u8, bytes: Box<[u8; BOXED]> },
     /// In a vector of their own.
     Vector(Box<Vec<u8>>),
 }
 
-/// A list of bytes, of 16 bytes itself. One of at most 14 bytes takes no memory beside these.
+/// A list of bytes, of 16 bytes itself. One of at most 14 bytes takes no memory beside these, a copy of at most 56 bytes takes one
+/// piece, a longer one two.
 pub struct Text {
     bytes: Bytes,
 }
@@ -161,6 +167,19 @@ fn inline(bytes: &[u8]) -> Bytes
     }
 }
 
+// These bytes, of which there are not many, in a box.
+fn boxed(alloc: Global, bytes: &[u8]) -> Result<Bytes, AllocError>
+    requires { length bytes.now ≤ 56 }
+    ensures { IfOk result (λ own. bytes_of own ≡ bytes.now) }
+{
+    let mut own = [0; BOXED];
+    own.split_at_mut(bytes.len()).0.copy_from_slice(bytes);
+    Ok(Bytes::Boxed {
+        count: bytes.len() as u8,
+        bytes: Box::new(alloc, own)?,
+    })
+}
+
 // The same with their letters in upper case.
 fn inline_uppercase(bytes: &[u8]) -> Bytes
     requires { length bytes.now ≤ 14 }
@@ -196,6 +215,11 @@ impl Text {
         if bytes.len() <= INLINE {
             return Ok(Text {
                 bytes: inline(bytes),
+            });
+        }
+        if bytes.len() <= BOXED {
+            return Ok(Text {
+                bytes: boxed(alloc, bytes)?,
             });
         }
         Text::from_vec(alloc, bytes.to_vec(alloc)?)
@@ -253,6 +277,7 @@ impl Text {
     {
         match &self.bytes {
             Bytes::Inline { bytes, count } => front(bytes, *count as usize),
+            Bytes::Boxed { count, bytes } => front(&**bytes, *count as usize),
             Bytes::Vector(bytes) => bytes,
         }
     }

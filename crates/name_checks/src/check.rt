@@ -230,8 +230,9 @@ pub fn kind_faults(
     Ok(Messages::from_vec(errors))
 }
 
-// What is wrong with the names of a block of which this is known: the class of names.
-pub(crate) fn name_errors_in(alloc: Global, known: &Known<'_>) -> Result<Messages, AllocError>
+/// What is wrong with the names of a block of which this is known: the errors 6040 to 6046, in the order of the terms. The
+/// only error is want of memory.
+pub fn name_errors_in(alloc: Global, known: &Known<'_>) -> Result<Messages, AllocError>
     requires { KnowsItsTerms known.now }
     ensures { IfOk result
         (λ ms. are_terms (trees_of known.now.terms.now) ≡ true → ms ≡ map message_of (name_errors (trees_of known.now.terms.now))) }

@@ -4,5 +4,3 @@
 pub mod check;
 pub mod fault;
 pub mod rules;
-#[cfg(test)]
-mod tests;

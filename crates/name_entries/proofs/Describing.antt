@@ -11,7 +11,7 @@ use Rattle.acpi_state.specs.Outcomes.{choose}
 use Rattle.iasl_messages.specs.declared.place.Place.{Place}
 use Rattle.asl_meaning.specs.Declarations.{is_named}
 use Rattle.acpi_names.specs.Errors.{Whole, final}
-use Rattle.name_entries.specs.Entries.{described_by, end_kind, end_arity, entry_as, entry_said}
+use Rattle.name_entries.specs.Entries.{described_by, kind_in, end_arity, entry_as, entry_said}
 use Rattle.name_entries.specs.Placed.{Places, place_at}
 use Rattle.name_entries.specs.declared.kind.ObjectType.{ObjectType}
 use Rattle.name_entries.specs.declared.description.Description.{Description}
@@ -29,19 +29,25 @@ said_each paths said look size each n = by_place (nat_lt n (length paths)) refl
         let le : length paths ≤ n = grind (arith, nat_tests, c) in
         get_or_past said n None (omega (arith, le, size)) ∙ sym (ap (λ o. choose o None look) (slice_get_past paths n le))
 
+-- what is said of a path, by whether it is named
+abbrev said_of : List ℕ → Whole → Places → AbsolutePath → Bool → Option Description
+said_of nodes whole places path named =
+    if named then Some (record { kind = kind_in nodes places (final whole.known path); arity = end_arity (final whole.known path); place = place_at places path }) else None
+
 -- a path that is not named is none
-pub not_named : (whole : Whole) (places : Places) (path : AbsolutePath) (b : Bool) → b ≡ is_named whole.all path → b ≡ false → None ≡ described_by whole places path
-not_named whole places path b e h =
-    sym (ap (λ c. if c then Some (record { kind = end_kind (final whole.known path); arity = end_arity (final whole.known path); place = place_at places path }) else None) (sym e ∙ h))
+pub not_named : (nodes : List ℕ) (whole : Whole) (places : Places) (path : AbsolutePath) (b : Bool) → b ≡ is_named whole.all path → b ≡ false → None ≡ described_by nodes whole places path
+not_named nodes whole places path b e h = sym (ap (said_of nodes whole places path) (sym e ∙ h))
 
 abbrev described_as : ObjectType → ℕ → Place → Option Description
 described_as kind arity place = Some (record { kind = kind; arity = arity; place = place })
 
 -- a named one is described by its end and its place
-pub named_so : (whole : Whole) (places : Places) (path : AbsolutePath) (b : Bool) (kind : ObjectType) (arity : ℕ) (place : Place) → b ≡ is_named whole.all path → b ≡ true → kind ≡ end_kind (final whole.known path) → arity ≡ end_arity (final whole.known path) → place ≡ place_at places path → Some (record { kind = kind; arity = arity; place = place }) ≡ described_by whole places path
-named_so whole places path b kind arity place e h k a p =
-    ap (λ k. described_as k arity place) k ∙ ap (λ a. described_as (end_kind (final whole.known path)) a place) a ∙ ap (λ p. described_as (end_kind (final whole.known path)) (end_arity (final whole.known path)) p) p
-    ∙ sym (ap (λ c. if c then described_as (end_kind (final whole.known path)) (end_arity (final whole.known path)) (place_at places path) else None) (sym e ∙ h))
+pub named_so : (nodes : List ℕ) (whole : Whole) (places : Places) (path : AbsolutePath) (b : Bool) (kind : ObjectType) (arity : ℕ) (place : Place) → b ≡ is_named whole.all path → b ≡ true → kind ≡ kind_in nodes places (final whole.known path) → arity ≡ end_arity (final whole.known path) → place ≡ place_at places path
+    → Some (record { kind = kind; arity = arity; place = place }) ≡ described_by nodes whole places path
+named_so nodes whole places path b kind arity place e h k a p =
+    let found = final whole.known path in
+    ap (λ k. described_as k arity place) k ∙ ap (λ a. described_as (kind_in nodes places found) a place) a ∙ ap (λ p. described_as (kind_in nodes places found) (end_arity found) p) p
+    ∙ sym (ap (said_of nodes whole places path) (sym e ∙ h))
 
 -- one entry more
 pub said_more : {A : Type 0} (all : List (Option A)) (here : Option A) (i : ℕ) (look : ℕ → Option A) → length all ≡ i → ((n : ℕ) → n < i → get_or all n None ≡ look n) → here ≡ look i → (n : ℕ) → n < i + 1 → get_or (all ++ here ∷ []) n None ≡ look n

@@ -1,3 +1,4 @@
 pub mod Noting
 pub mod Placing
 pub mod Describing
+pub mod Flagging

@@ -16,9 +16,9 @@ use Rattle.name_kinds.proofs.Places.{next_taken}
 use Rattle.name_entries.specs.Placed.{Places, ArePlaced, no_places, placed, placed_all, with_outside}
 use Rattle.name_entries.specs.declared.places.PlaceTables.{PlaceTables}
 
--- a place is written
-pub place_set : (paths : List AbsolutePath) (table : List (Option Place)) (n : ℕ) (at : Place) (places : List (AbsolutePath × Place)) → AreDistinct paths → n < length paths → length table ≡ length paths → Tabled paths table (lookup places) → Tabled paths (set table n (Some at)) (lookup ((get_or paths n [], at) ∷ places))
-place_set paths table n at places distinct lt size tabled path =
+-- a place, or a node, is written
+pub place_set : {A : Type 0} (paths : List AbsolutePath) (table : List (Option A)) (n : ℕ) (at : A) (places : List (AbsolutePath × A)) → AreDistinct paths → n < length paths → length table ≡ length paths → Tabled paths table (lookup places) → Tabled paths (set table n (Some at)) (lookup ((get_or paths n [], at) ∷ places))
+place_set {A} paths table n at places distinct lt size tabled path =
     entry_set paths table n at distinct lt size path ∙ ap (λ o. if is_same_path (get_or paths n []) path then Some at else o) (tabled path)
 
 pub outside_set : (paths : List AbsolutePath) (new : PlaceTables) (b : Bool) (path : AbsolutePath) (at : Place) (p : Places) → b ≡ false → ArePlaced paths new (record p { external = (path, at) ∷ p.external }) → ArePlaced paths new (with_outside b path at p)

@@ -1,16 +1,17 @@
 -- What stands at the paths of a block (ACPI Specification 6.4, 5.3 and 19.6).
-use Rattle.std.specs.Prelude.{ℕ, nat_eq, nat_le, List, [], get_or, slice_get, Option, Some, None, if◌then◌else◌}
+use Rattle.std.specs.Prelude.{ℕ, Bool, false, nat_eq, nat_le, List, [], get_or, slice_get, Option, Some, None, if◌then◌else◌}
 use Rattle.std.specs.Option.{option_map}
 use Rattle.acpi_values.specs.Paths.{AbsolutePath}
 use Rattle.acpi_state.specs.Objects.{Object, DataObject, MethodObject, ContainerObject, MutexObject, EventObject, RegionObject, UnitObject}
 use Rattle.acpi_state.specs.Objects.{BufferFieldObject, AliasObject, ExternalObject, ExternalMethod, ExternalData, ExternalOther, OfRoot}
-use Rattle.acpi_state.specs.Objects.{Device, ThermalZone, PowerResource, Processor, operand_count}
+use Rattle.acpi_state.specs.Objects.{Device, ThermalZone, PowerResource, Processor, operand_count, lookup}
 use Rattle.acpi_state.specs.Outcomes.{choose}
 use Rattle.asl_tree.specs.Names.{absolute}
 use Rattle.asl_tree.specs.Tree.{Trees}
 use Rattle.asl_meaning.specs.Declarations.{nothing_declared, is_named}
 use Rattle.acpi_names.specs.Errors.{Whole, whole_of, final}
 use Rattle.acpi_names.specs.Mentions.{block_mentions}
+use Rattle.name_entries.specs.Descriptors.{descriptors_among, is_among}
 use Rattle.name_entries.specs.Placed.{Places, no_places, placed_all, place_at}
 use Rattle.name_entries.specs.declared.kind.ObjectType.{ObjectType}
 use Rattle.name_entries.specs.declared.description.Description.{Description}
@@ -67,17 +68,33 @@ abbrev pub end_arity : Option (AbsolutePath × Object) → ℕ
 end_arity None = 0
 end_arity (Some found) = as_byte (operand_count found.1)
 
+-- whether the node that declares a path last is the name of a descriptor, where these nodes are
+abbrev pub is_descriptor : List ℕ → Option ℕ → Bool
+is_descriptor descriptors None = false
+is_descriptor descriptors (Some node) = is_among descriptors node
+
+-- the same kind, but that of a descriptor where a path ends at one
+abbrev pub kind_in : List ℕ → Places → Option (AbsolutePath × Object) → ObjectType
+kind_in descriptors places None = ObjectType.Data
+kind_in descriptors places (Some found) =
+    if is_descriptor descriptors (lookup places.nodes found.0) then ObjectType.Descriptor else object_kind found.1
+
 -- a path that is declared, of another table or of the root: an alias has kind and arity of what it refers to, and its
 -- own place
-abbrev pub described_by : Whole → Places → AbsolutePath → Option Description
-described_by whole places path =
+abbrev pub described_by : List ℕ → Whole → Places → AbsolutePath → Option Description
+described_by descriptors whole places path =
     if is_named whole.all path then
-    Some (record { kind = end_kind (final whole.known path); arity = end_arity (final whole.known path); place = place_at places path })
+    Some (record {
+      kind = kind_in descriptors places (final whole.known path);
+      arity = end_arity (final whole.known path);
+      place = place_at places path;
+    })
     else None
 
 -- the same in a block
 abbrev pub described : Trees → AbsolutePath → Option Description
-described program path = described_by (whole_of program) (placed_all (block_mentions program [] nothing_declared) no_places) path
+described program path =
+    described_by (descriptors_among program) (whole_of program) (placed_all (block_mentions program [] nothing_declared) no_places) path
 
 -- the entry of a path with its number, of which this is said
 abbrev pub entry_as : ℕ → AbsolutePath → Description → Entry

@@ -1,3 +1,4 @@
 pub mod Uses
+pub mod Descriptors
 pub mod Placed
 pub mod Entries

@@ -9,6 +9,7 @@ ghost use Rattle.name_entries.specs.Entries.{entry_as, entry_said, entry_in};
 ghost use Rattle.name_entries.specs.Uses.{denoted_in};
 
 use crate::description::{Description, described_all};
+use crate::descriptors::descriptor_flags;
 use crate::kind::ObjectType;
 use crate::uses::{has_room, uses_in};
 use acpi_names::index::Index;
@@ -21,7 +22,8 @@ use name_kinds::known::known_of;
 use std::alloc::{AllocError, Global};
 
 /// What a path is: its number, the path from the root, its kind, how many arguments it takes, and the place of the node
-/// that is its declared name. An alias has the kind and the number of arguments of what it refers to.
+/// that is its declared name. An alias has the kind and the number of arguments of what it refers to. A resource descriptor
+/// is what a term `Name` of its own declares, whose value is bytes alone.
 #[derive(Drop)]
 pub struct Entry {
     pub number: u32,
@@ -135,7 +137,8 @@ pub fn entries_of(alloc: Global, terms: &[Node]) -> Result<Entries, AllocError>
 {
     let known = known_of(alloc, terms)?;
     let uses = uses_in(alloc, &known)?;
-    let said = described_all(alloc, &known.facts, &known.mentions)?;
+    let flags = descriptor_flags(alloc, known.terms)?;
+    let said = described_all(alloc, &known.facts, &known.mentions, &flags)?;
     let entries = entry_table(alloc, &known.facts.index.paths, &said)?;
     let (index, _) = known.into_names();
     Ok(Entries {

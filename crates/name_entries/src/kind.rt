@@ -30,6 +30,8 @@ pub enum ObjectType {
     Data,
     /// The root, or one of its containers.
     Container,
+    /// A resource descriptor with a name (ACPI Specification 6.4, 19.2.8).
+    Descriptor,
 }
 
 // The kind with the number of an object type.
@@ -74,7 +76,7 @@ fn declared(what: What) -> ObjectType
     }
 }
 
-/// The kind of an object.
+/// The kind of an object, as it is declared or as an External says it. The name of a descriptor is data as an object.
 pub fn kind_of(object: Object) -> ObjectType
     ensures { result ≡ object_kind (object_as object) }
 {

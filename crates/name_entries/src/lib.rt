@@ -2,6 +2,7 @@
 #![tactic(auto)]
 
 pub mod description;
+mod descriptors;
 pub mod entries;
 pub mod kind;
 mod places;

@@ -1,26 +1,28 @@
 //! Where the names of paths are declared, in tables by the numbers of paths.
 ghost use Rattle.std.specs.Prelude.{◌≡◌, ◌<◌, [], length, get_or, IfOk};
+ghost use Rattle.acpi_state.specs.Objects.{lookup};
 ghost use Rattle.asl_meaning.specs.Declarations.{nothing_declared};
 ghost use Rattle.acpi_names.specs.Errors.{Whole};
 ghost use Rattle.acpi_names.specs.Mentions.{after_all};
 ghost use Rattle.acpi_names.specs.Parts.{Agrees};
-ghost use Rattle.acpi_names.specs.Shown.{shown, all_shown};
+ghost use Rattle.acpi_names.specs.Shown.{shown, all_shown, spot_as};
 ghost use Rattle.name_kinds.specs.Tables.{IsThere};
 ghost use Rattle.name_entries.specs.Placed.{Places, AreAll, ArePlaced, IsDeclaredAt, IsOutsideAt, no_places, placed, placed_all, place_at};
 ghost use Rattle.name_entries.specs.Placed.{first_place};
 
 use acpi_names::index::Index;
-use acpi_names::mention::{Mention, WrittenName};
+use acpi_names::mention::{Mention, Occurrence, WrittenName};
 use acpi_names::paths::Paths;
 use iasl_messages::place::Place;
 use name_kinds::tables::{declared_at, is_in_root};
 use std::alloc::{AllocError, Global};
 
 /// Where the paths with these numbers are declared last, and where their last External names them: the place of the
-/// node that is the name.
+/// node that is the name, and of a declaration also the number of that node.
 #[derive(Drop)]
 pub struct PlaceTables {
     pub declared: Vec<Option<Place>>,
+    pub nodes: Vec<Option<u32>>,
     pub external: Vec<Option<Place>>,
 }
 
@@ -30,23 +32,30 @@ fn blank(alloc: Global, paths: &Paths) -> Result<PlaceTables, AllocError>
     ensures placed { IfOk result (λ t. ArePlaced paths.now t no_places) }
 {
     let mut declared = Vec::new(alloc);
+    let mut nodes = Vec::new(alloc);
     let mut external = Vec::new(alloc);
     for number in 0..paths.len() {
         declared.push(None)?;
+        nodes.push(None)?;
         external.push(None)?;
     }
-    Ok(PlaceTables { declared, external })
+    Ok(PlaceTables {
+        declared,
+        nodes,
+        external,
+    })
 }
 
 // A declaration of a path.
-fn note_declared(paths: &Paths, tables: &mut PlaceTables, number: usize, at: Place)
+fn note_declared(paths: &Paths, tables: &mut PlaceTables, number: usize, at: Occurrence)
     requires within { number < length paths.now }
     requires sized { AreAll paths.now tables.old }
     ensures sized { AreAll paths.now tables.new }
-    ensures placed { IsDeclaredAt paths.now tables.old tables.new (get_or paths.now number []) at }
+    ensures placed { IsDeclaredAt paths.now tables.old tables.new (get_or paths.now number []) (spot_as at) }
 {
     let count = paths.len();
-    tables.declared[number] = Some(at);
+    tables.declared[number] = Some(at.place);
+    tables.nodes[number] = Some(at.id);
 }
 
 // An External of a path.
@@ -80,7 +89,7 @@ fn note(index: &Index, tables: &mut PlaceTables, mention: &Mention)
             ..
         } => {
             let number = declared_at(index, *name, *scope);
-            note_declared(&index.paths, tables, number, at.place);
+            note_declared(&index.paths, tables, number, *at);
         }
         Mention::Outside {
             at,
@@ -135,6 +144,16 @@ fn first_of(declared: Option<Place>, external: Option<Place>) -> Place
             None => BEGINNING,
         },
     }
+}
+
+/// The number of the node that declares the path with a number last.
+pub fn node_of(paths: &Paths, tables: &PlaceTables, number: usize) -> Option<u32>
+    requires within { number < length paths.now }
+    requires sized { AreAll paths.now tables.now }
+    ensures { (p : Places) → ArePlaced paths.now tables.now p → result ≡ lookup p.nodes (get_or paths.now number []) }
+{
+    let count = paths.len();
+    tables.nodes[number]
 }
 
 /// The place of the path with a number: where it is declared last, or else where its last External names it. A path

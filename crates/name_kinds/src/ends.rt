@@ -87,8 +87,8 @@ fn unwalked(alloc: Global, count: usize) -> Result<Walks, AllocError>
     ensures ends { IfOk result (λ w. length w.ends.items ≡ count) }
     ensures chain { IfOk result (λ w. w.chain.items ≡ []) }
 {
-    let mut marks = Vec::new(alloc);
-    let mut ends = Vec::new(alloc);
+    let mut marks = Vec::with_capacity(alloc, count)?;
+    let mut ends = Vec::with_capacity(alloc, count)?;
     for number in 0..count {
         marks.push(WalkState::New)?;
         ends.push(None)?;

@@ -61,9 +61,9 @@ pub fn blank(alloc: Global, index: &Index) -> Result<Tables, AllocError>
     ensures notes { IfOk result (λ t. (has : AbsolutePath → Bool) → TablesSay index.now.paths has t [] nothing_declared) }
 {
     let count = index.paths.len();
-    let mut kinds = Vec::new(alloc);
-    let mut externals = Vec::new(alloc);
-    let mut calls = Vec::new(alloc);
+    let mut kinds = Vec::with_capacity(alloc, count)?;
+    let mut externals = Vec::with_capacity(alloc, count)?;
+    let mut calls = Vec::with_capacity(alloc, count)?;
     for number in 0..count {
         kinds.push(None)?;
         externals.push(None)?;
@@ -114,8 +114,9 @@ fn depth(paths: &Paths, depths: &[usize], number: usize) -> usize
 fn depths(alloc: Global, paths: &Paths) -> Result<Vec<usize>, AllocError>
     ensures { IfOk result (λ v. AreDepths paths.now v.items) }
 {
-    let mut depths = Vec::new(alloc);
-    for number in 0..paths.len() {
+    let count = paths.len();
+    let mut depths = Vec::with_capacity(alloc, count)?;
+    for number in 0..count {
         let next = depth(paths, &depths, number);
         depths.push(next)?;
     }

@@ -1,12 +1,14 @@
 //! The notes on the names of a block.
-ghost use Rattle.std.specs.Prelude.{◌≡◌, ◌<◌, ◌++◌, ◌&&◌, not, Bool, [], length, get_or, map, IfOk, OnOk};
+ghost use Rattle.std.specs.Prelude.{◌≡◌, ◌<◌, ◌++◌, ◌&&◌, not, Bool, true, [], length, get_or, map, IfOk, OnOk};
 ghost use Rattle.acpi_values.specs.Paths.{AbsolutePath};
+ghost use Rattle.asl_tree.specs.Tree.{At};
 ghost use Rattle.asl_tree.specs.View.{trees_of};
+ghost use Rattle.asl_tree.specs.declared.path.Path.{Path};
 ghost use Rattle.asl_meaning.specs.Declarations.{is_named, nothing_declared};
 ghost use Rattle.acpi_names.specs.Errors.{Whole};
-ghost use Rattle.acpi_names.specs.Mentions.{after_all};
+ghost use Rattle.acpi_names.specs.Mentions.{Declares, after_all};
 ghost use Rattle.acpi_names.specs.Parts.{Agrees};
-ghost use Rattle.acpi_names.specs.Shown.{shown, all_shown};
+ghost use Rattle.acpi_names.specs.Shown.{declared_as, shown, all_shown};
 ghost use Rattle.name_kinds.specs.Known.{KnowsItsTerms};
 ghost use Rattle.name_kinds.specs.Tables.{IsThere};
 ghost use Rattle.name_notes.specs.Marks.{AreSized, Marked};
@@ -16,7 +18,7 @@ use crate::marks::{Marks, is_marked, mark_each, marks_of, method_arguments};
 use crate::reserved::arguments_of;
 use acpi_names::index::Index;
 use acpi_names::lookup::scope_in;
-use acpi_names::mention::Mention;
+use acpi_names::mention::{Declared, Mention};
 use acpi_names::paths::Paths;
 use iasl_messages::message::{Message, Messages};
 use iasl_messages::number::{NAME_IS_UNUSED, RESERVED_NAME_ARGUMENTS};
@@ -72,6 +74,30 @@ fn tell(
     Ok(())
 }
 
+// Whether a scope is a method's.
+fn is_of_method(index: &Index, marks: &Marks, scope: usize) -> bool
+    requires { AreSized index.now.paths marks.now }
+    ensures { (is_method : AbsolutePath → Bool) → Marked index.now.paths marks.now.methods.items is_method →
+        result ≡ is_method (get_or index.now.paths scope []) }
+{
+    let paths = &index.paths;
+    is_marked(paths, &marks.methods, scope_in(paths, scope))
+}
+
+// Whether nothing is told of what is declared in a scope: it is no method, and the scope is no method's.
+#[tactic(auto, using(crate::proofs::Telling::nothing_told))]
+fn is_passed(index: &Index, marks: &Marks, what: Declared, scope: usize) -> bool
+    requires { AreSized index.now.paths marks.now }
+    ensures { result ≡ true → (is_method is_used : AbsolutePath → Bool) → Marked index.now.paths marks.now.methods.items is_method →
+        (at : At) (name : Path) → mention_notes is_method is_used
+        (Declares at name (declared_as index.now.paths what.entry) (get_or index.now.paths scope [])) ≡ [] }
+{
+    match method_arguments(what) {
+        Some(_) => false,
+        None => !is_of_method(index, marks, scope),
+    }
+}
+
 // Whether a name that is declared in a scope is a method's own, and not used.
 fn is_unused(index: &Index, marks: &Marks, number: usize, scope: usize) -> bool
     requires within { number < length index.now.paths }
@@ -81,8 +107,7 @@ fn is_unused(index: &Index, marks: &Marks, number: usize, scope: usize) -> bool
         result ≡ (is_method (get_or index.now.paths scope []) && not (is_used (get_or index.now.paths number []))) }
 {
     let paths = &index.paths;
-    is_marked(paths, &marks.methods, scope_in(paths, scope))
-        && !is_marked(paths, &marks.used, number)
+    is_of_method(index, marks, scope) && !is_marked(paths, &marks.used, number)
 }
 
 // The notes on one mention.
@@ -108,6 +133,9 @@ fn note(
             what,
             scope,
         } => {
+            if is_passed(index, marks, *what, *scope) {
+                return Ok(());
+            }
             let paths = &index.paths;
             let number = declared_at(index, *name, *scope);
             let others = takes_others(arguments_due(paths, number), method_arguments(*what));

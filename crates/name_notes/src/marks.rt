@@ -81,7 +81,7 @@ fn used(index: &Index, mention: &Mention) -> Option<usize>
 fn blank(alloc: Global, count: usize) -> Result<Vec<bool>, AllocError>
     ensures { IfOk result (λ flags. flags.items ≡ replicate count false) }
 {
-    let mut flags = Vec::new(alloc);
+    let mut flags = Vec::with_capacity(alloc, count)?;
     for number in 0..count {
         flags.push(false)?;
     }

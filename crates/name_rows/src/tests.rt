@@ -1,4 +1,5 @@
 mod of_acpi_names;
+mod of_name_checks;
 mod of_name_entries;
 mod of_name_notes;
 mod of_name_spelling;
@@ -24,8 +25,7 @@ fn add(nodes: &mut Vec<Node>, term: Term) -> Result<(), AllocError> {
 }
 
 fn name(alloc: Global, segment: NameSeg) -> Result<Term, AllocError> {
-    let mut segs = Segs::new(alloc);
-    segs.push(segment)?;
+    let segs = Segs::one(segment);
     Ok(Term::Name(Path {
         root: false,
         up: 0,

@@ -180,7 +180,7 @@ pub(crate) fn name_in(
         }
     }
     segs.reverse();
-    let segs = Segs::from_vec(segs);
+    let segs = Segs::from_vec(alloc, segs)?;
     Ok(Path {
         root: form.root,
         up: form.up,

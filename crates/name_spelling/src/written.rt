@@ -11,7 +11,7 @@ use crate::form::{name_in, shortest_placed, shortest_used};
 use acpi_names::index::Index;
 use acpi_names::lookup::{denotes, find, from_root, prefixed, single};
 use acpi_names::paths::{Paths, nearest};
-use asl_tree::path::Path;
+use asl_tree::path::{Path, Segs};
 use std::alloc::{AllocError, Global};
 
 /// The nearest candidate of a used name that has a second one further out.
@@ -117,7 +117,7 @@ pub(crate) fn other_element(
             Some(number) => Ok(Some(from_root(alloc, &index.paths, number)?)),
             None => {
                 let mut path = from_root(alloc, &index.paths, scope)?;
-                path.segs.push(segment)?;
+                path.segs = Segs::with_last(alloc, &path.segs, segment)?;
                 Ok(Some(path))
             }
         },

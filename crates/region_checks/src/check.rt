@@ -195,12 +195,9 @@ fn all_site_errors(
     Ok(out)
 }
 
-// What is told of a block, by what its mentions say.
-pub(crate) fn seen_faults(
-    alloc: Global,
-    width: Width,
-    known: &Known<'_>,
-) -> Result<Messages, AllocError>
+/// What `region_faults` tells of a block, by what its mentions say, whatever its terms are. The only error is want of
+/// memory, as with `region_faults`.
+pub fn seen_faults(alloc: Global, width: Width, known: &Known<'_>) -> Result<Messages, AllocError>
     requires { KnowsItsTerms known.now }
     ensures { IfOk result (λ ms. ms ≡ sited_errors (seen (block_mentions (trees_of known.now.terms.now) [] nothing_declared))
         (sites_all width (trees_of known.now.terms.now) (plans_of known.now.terms.now) [] nothing_declared)) }

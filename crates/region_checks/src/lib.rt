@@ -4,5 +4,3 @@
 pub mod check;
 pub mod measure;
 mod site;
-#[cfg(test)]
-mod tests;

@@ -1,5 +1,5 @@
 -- The errors of a term by its parts.
-use Rattle.std.proofs.Common.{◌≡◌, ℕ, ◌+◌, ◌++◌, List, [], Bool, Vec, Global, append_assoc, sym, ap, ◌∙◌}
+use Rattle.std.proofs.Common.{◌≡◌, ℕ, ◌+◌, ◌++◌, List, [], ◌∷◌, length, Bool, Vec, Global, append_assoc, append-nil, sym, ap, ◌∙◌, arith}
 use Rattle.iasl_messages.specs.declared.place.Place.{Place}
 use Rattle.iasl_messages.specs.declared.message.Message.{Message}
 use Rattle.asl_tree.specs.declared.path.Path.{Path}
@@ -97,3 +97,9 @@ form_told around inner place t op args body xs ys zs wrong old own first new e a
     ∙ append_assoc old (mine ++ before) after
     ∙ ap (λ ms. old ++ ms) (append_assoc mine before after)
     ∙ ap (λ x. old ++ term_errors around place x) (sym (form_is t op args body xs ys e a b))
+
+-- nothing is told of no terms
+pub none_behind : (around : Around) (ns : List Node) (ms : List Message) → length ns ≡ 0 → ms ≡ ms ++ statement_errors around (plans_of ns)
+unfolding plans_of
+none_behind around [] ms e = sym (append-nil ms)
+none_behind around (n ∷ ns) ms e = absurd (omega (arith, e))

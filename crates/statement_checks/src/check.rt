@@ -141,6 +141,9 @@ fn term_errors(
             let wrong = misses_loop(*op, around);
             tell_if(alloc, out, wrong, number::NO_LOOP, node.place)?;
             all_errors(alloc, out, args, around)?;
+            if body.is_empty() {
+                return Ok(());
+            }
             all_errors(alloc, out, body, around_body(*op, args, around))?;
             Ok(())
         }

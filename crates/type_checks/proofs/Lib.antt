@@ -5,3 +5,4 @@ pub mod Walks
 pub mod Fitting
 pub mod Listing
 pub mod Absent
+pub mod AnyKind

@@ -1,5 +1,5 @@
 -- Lists and sizes.
-use Rattle.std.proofs.Common.{◌≡◌, ℕ, zero, suc, ◌+◌, ◌<◌, ◌≤◌, List, [], ◌∷◌, ◌++◌, length, get_or, drop, append_assoc, append-nil, Vec, Global, Option, Some, None, Result, Err, refl, sym, ap, ◌∙◌, arith}
+use Rattle.std.proofs.Common.{◌≡◌, ℕ, suc, ◌+◌, ◌<◌, ◌≤◌, List, [], ◌∷◌, ◌++◌, length, get_or, drop, append_assoc, append-nil, Vec, Global, Option, Some, None, Err, refl, sym, ap, ◌∙◌, arith}
 use Rattle.std.specs.Prelude.{slice_get, unwrap_or}
 use Rattle.iasl_messages.specs.declared.message.Message.{Message}
 use Rattle.iasl_messages.specs.declared.place.Place.{Place}
@@ -11,7 +11,7 @@ use Rattle.asl_tree.specs.declared.term.NamedDescriptor.{NamedDescriptor}
 use Rattle.asl_tree.specs.declared.term.Node.{Node}
 use Rattle.asl_tree.specs.declared.term.Term.{Term}
 use Rattle.asl_tree.specs.declared.term.Term as D
-use Rattle.asl_shape.specs.Plans.{no_plans, plan, plan_of, plans_of, plan_at, how_many, constant_of}
+use Rattle.asl_shape.specs.Plans.{plan_of, plans_of, plan_at, how_many, constant_of}
 use Rattle.type_checks.specs.Sizes.{bytes_alone, byte_count, size_errors, term_errors, long_lists}
 use Rattle.asl_shape.proofs.Plans.{plan_form, plan_call}
 use Rattle.type_checks.proofs.Terms.{form_is, by_term, of_leaves, plans_at, no_more}

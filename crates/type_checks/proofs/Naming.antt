@@ -1,27 +1,14 @@
 -- What stands where names lead, by lists.
-use Rattle.std.proofs.Common.{◌≡◌, ℕ, ◌+◌, ◌<◌, ◌≤◌, Bool, true, false, List, [], ◌∷◌, ◌++◌, length, get_or, Option, Some, None, refl, sym, ap, ◌∙◌, arith}
-use Rattle.std.specs.Prelude.{nat_lt, if◌then◌else◌}
+use Rattle.std.proofs.Common.{◌≡◌, ℕ, ◌+◌, ◌<◌, ◌≤◌, Bool, true, false, List, [], ◌∷◌, ◌++◌, length, get_or, Option, None, refl, sym, ap, ◌∙◌, arith}
+use Rattle.std.specs.Prelude.{nat_lt}
 use Rattle.std.proofs.lemmas.Bool.Decides.{nat_tests}
 use Rattle.std.proofs.Math.Seq.{get_or-append_seam}
 use Rattle.std.proofs.lemmas.List.{get_or_past, get_or_append_left}
 use Rattle.acpi_values.specs.Paths.{AbsolutePath}
 use Rattle.acpi_state.specs.Outcomes.{choose}
-use Rattle.asl_meaning.specs.Declarations.{is_named}
-use Rattle.acpi_names.specs.Errors.{Whole, final}
 use Rattle.acpi_names.specs.Paths.{path_with}
-use Rattle.name_entries.specs.Entries.{described_by, end_kind, end_arity}
-use Rattle.name_entries.specs.Placed.{Places, place_at}
 use Rattle.name_entries.specs.declared.kind.ObjectType.{ObjectType as Named}
 use Rattle.name_entries.specs.declared.kind.ObjectType.TheVariants as N
-use Rattle.type_checks.specs.Names.{kind_known, kind_said}
-
--- what is known of a path is the kind in what is said of it
-pub known_said : (whole : Whole) (places : Places) (path : AbsolutePath) → kind_known whole path ≡ kind_said (described_by whole places path)
-known_said whole places path = by_named (is_named whole.all path)
-  where
-    by_named : (c : Bool) → (if c then end_kind (final whole.known path) else N.Data) ≡ kind_said (if c then Some (record { kind = end_kind (final whole.known path); arity = end_arity (final whole.known path); place = place_at places path }) else None)
-    by_named true = refl
-    by_named false = refl
 
 -- one node more
 pub named_more : (all : List Named) (here : Named) (i : ℕ) (look : ℕ → Named) → length all ≡ i → ((n : ℕ) → n < i → get_or all n N.Data ≡ look n) → here ≡ look i → (n : ℕ) → n < i + 1 → get_or (all ++ here ∷ []) n N.Data ≡ look n

@@ -1,17 +1,17 @@
 -- The errors of arguments one after another.
-use Rattle.std.proofs.Common.{◌≡◌, ℕ, zero, suc, ◌+◌, ◌<◌, ◌≤◌, List, [], ◌∷◌, ◌++◌, length, get_or, drop, append_assoc, append-nil, Vec, Global, Option, Some, None, refl, sym, ap, ◌∙◌, subst, arith}
+use Rattle.std.proofs.Common.{◌≡◌, ℕ, suc, ◌+◌, ◌<◌, ◌≤◌, List, [], ◌++◌, length, get_or, drop, append_assoc, append-nil, Vec, Global, Option, Some, None, refl, sym, ap, ◌∙◌, subst, arith}
 use Rattle.iasl_messages.specs.declared.message.Message.{Message}
 use Rattle.asl_tree.specs.declared.path.Path.{Path}
 use Rattle.asl_tree.specs.declared.term.Op.{Op}
 use Rattle.asl_tree.specs.declared.term.Node.{Node}
 use Rattle.asl_tree.specs.declared.term.Term.{Term}
 use Rattle.asl_tree.specs.declared.term.Term as D
-use Rattle.asl_shape.specs.Plans.{no_plans, plan, plan_of, plans_of}
+use Rattle.asl_shape.specs.Plans.{plan_of, plans_of}
 use Rattle.asl_numbers.specs.Numbers.{inside, nodes}
 use Rattle.name_entries.specs.declared.kind.ObjectType.{ObjectType as Named}
 use Rattle.type_checks.specs.Kinds.{wanted_of}
 use Rattle.type_checks.specs.Types.{argument_errors, errors_inside, errors_of}
-use Rattle.type_checks.proofs.Terms.{call_is, form_is, inside_form, of_leaves, plans_at, no_more, all_left, count_at, none_left}
+use Rattle.type_checks.proofs.Terms.{form_is, of_leaves, plans_at, no_more, all_left, count_at, none_left}
 
 -- some first arguments are checked, and those behind them are not yet
 pub record Remains (names : ℕ → Named) (asker : Option Op) (ns : List Node) (first : ℕ) (initial : List Message) (at next : ℕ) (now : List Message) : Type 0 where

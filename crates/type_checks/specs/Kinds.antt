@@ -4,7 +4,7 @@ use Rattle.std.specs.Prelude.{Some, None}
 use Rattle.acpi_values.specs.declared.operator.DataOp.TheVariants as DataOp
 use Rattle.acpi_values.specs.declared.operator.EventOp.TheVariants as EventOp
 use Rattle.acpi_values.specs.declared.operator.Plain.{Plain}
-use Rattle.acpi_values.specs.Operators.{Letter, Valued, Row, row_of}
+use Rattle.acpi_values.specs.Operators.{Letter, Valued, row_of}
 use Rattle.acpi_state.specs.Outcomes.{choose}
 use Rattle.asl_operators.specs.declared.letter.Letter.{Letter as CodeLetter}
 use Rattle.asl_operators.specs.Letters.{letter_as}
@@ -116,10 +116,12 @@ wanted_of (Some op) place = form_argument op place
 abbrev pub any_data : List ValueKind
 any_data = K.Integer ∷ K.String ∷ K.Buffer ∷ K.Package ∷ K.Reference ∷ []
 
--- what stands where a name leads: data may change its kind, and so may an object of another table of which no type is said
+-- what stands where a name leads: data may change its kind, and so may an object of another table of which no type is said;
+-- of the kind of a descriptor nothing is asked here
 abbrev pub object_kinds : Named → List ValueKind
 object_kinds N.Data = any_data
 object_kinds N.Unknown = any_data
+object_kinds N.Descriptor = any_data
 object_kinds N.Integer = K.Integer ∷ []
 object_kinds N.String = K.String ∷ []
 object_kinds N.Buffer = K.Buffer ∷ []

@@ -1,5 +1,5 @@
 -- The Buffers and Packages whose lists are longer than their sizes (ACPI Specification 6.4, 19.6.10 and 19.6.102).
-use Rattle.std.specs.Prelude.{ℕ, suc, nat_lt, Bool, true, false, List, [], ◌∷◌, ◌++◌, length, unwrap_or, Result, Ok, Err, Option, Some}
+use Rattle.std.specs.Prelude.{ℕ, suc, nat_lt, Bool, true, false, List, [], ◌∷◌, ◌++◌, length, unwrap_or, Result, Ok, Option, Some}
 use Rattle.std.specs.Prelude.{None}
 use Rattle.iasl_messages.specs.declared.message.Message.{Message}
 use Rattle.iasl_messages.specs.declared.place.Place.{Place}

@@ -188,9 +188,15 @@ fn argument_errors(
     ensures { OnOk result
         (out.new ≡ out.old ++ spec.argument_errors (listed names.now) wants number node.now.place (plan_of node.now.term)) }
 {
-    let fit = fits(names, wants, is_place(wants), number, &node.term)?;
-    tell_unless(alloc, out, fit, node.place)?;
-    Ok(())
+    match wants {
+        // (each expression has some kind)
+        Wanted::Anything => Ok(()),
+        _ => {
+            let fit = fits(names, wants, is_place(wants), number, &node.term)?;
+            tell_unless(alloc, out, fit, node.place)?;
+            Ok(())
+        }
+    }
 }
 
 // The errors inside a term, whose first node inside has this number; and the number behind the last.

@@ -247,7 +247,7 @@ fn object_kinds(object: Named) -> &'static [ValueKind]
     ensures { result.now ≡ spec.object_kinds object }
 {
     match object {
-        Named::Data | Named::Unknown => any_data(),
+        Named::Data | Named::Unknown | Named::Descriptor => any_data(),
         Named::Integer => &[ValueKind::Integer],
         Named::String => &[ValueKind::String],
         Named::Buffer => &[ValueKind::Buffer],

@@ -55,7 +55,7 @@ fn named_each(
     ensures { IfOk result (λ all. (node : ℕ) → get_or all.items node N.Data ≡ choose
         (path_with known.now.facts.index.paths (get_or uses.now node None)) N.Data (kind_known whole)) }
 {
-    let mut all = Vec::new(alloc);
+    let mut all = Vec::with_capacity(alloc, uses.len())?;
     for target in uses {
         all.push(named_by(&known.facts, *target))?;
     }

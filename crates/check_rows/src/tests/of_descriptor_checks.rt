@@ -8,8 +8,9 @@ use acpi_names::index::{BlockNames, names_of};
 use asl_parser::parse;
 use asl_shape::shape;
 use asl_tree::term::{Node, Term, Word};
-use descriptor_checks::check::{Resolved, described, resolved_names};
-use descriptor_checks::told::use_faults;
+use descriptor_checks::check::{Resolved, resolved_names};
+use descriptor_checks::described::described;
+use descriptor_checks::told::sorted_mentions;
 use descriptor_fields::declare::names_descriptors;
 use descriptor_fields::strip::stripped;
 use iasl_messages::message::Message;
@@ -66,8 +67,8 @@ fn put_faults(alloc: Global, out: &mut String, terms: &[Node]) -> Result<(), All
 {
     let BlockNames { index, mentions } = names_of(alloc, terms)?;
     let table = described(alloc, &index, &mentions, terms)?;
-    let faults = use_faults(alloc, &index, &table, &mentions)?;
-    put_messages(alloc, out, &faults)
+    let sorted = sorted_mentions(alloc, &index, &table, &mentions)?;
+    put_messages(alloc, out, &sorted.faults)
 }
 
 // What the terms of a block come to: how many there are with those that declare descriptors, and without them; the constants

@@ -65,7 +65,7 @@ fn is_own(found: &BlockNames, name: &Path, scope: usize) -> bool {
 }
 
 fn is_alone(name: &Path, segment: NameSeg) -> bool {
-    match name.segs.get(0) {
+    match name.segs.as_slice().get(0) {
         Some(first) => *first == segment,
         None => false,
     }

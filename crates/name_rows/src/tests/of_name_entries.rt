@@ -1,7 +1,8 @@
 use super::{PLACE, name, segment};
 use asl_tree::path::{NameSeg, Path, Segs};
-use asl_tree::term::{Control, Declaration, Node, Op, Term};
+use asl_tree::term::{Control, Declaration, Node, Op, Special, Term};
 use iasl_messages::place::Place;
+use iasl_ports::list::{List, Text};
 use name_entries::entries::{Entries, entries_of};
 use std::alloc::{AllocError, Global};
 use std::test::Fail;
@@ -156,6 +157,39 @@ fn external(
     form(alloc, nodes, Op::Declaration(Declaration::External), args)
 }
 
+// Name (segment, bytes), as a resource descriptor is declared, with the number of the node that is the name; or, where the
+// bytes stand in a Buffer, Name (segment, Buffer () bytes).
+fn descriptor(
+    alloc: Global,
+    nodes: &mut Vec<Node>,
+    line: u32,
+    id: u32,
+    segment: NameSeg,
+    in_buffer: bool,
+) -> Result<(), AllocError> {
+    let mut args = Vec::new(alloc);
+    place(&mut args, id, line, name(alloc, segment)?)?;
+    let fill = Term::Fill {
+        bytes: Text::new(alloc),
+        named: List::new(alloc),
+    };
+    if in_buffer {
+        let mut size = Vec::new(alloc);
+        add(&mut size, 0, Term::Omitted)?;
+        let mut bytes = Vec::new(alloc);
+        add(&mut bytes, 0, fill)?;
+        let buffer = Term::Form {
+            op: Op::Special(Special::Buffer),
+            args: size,
+            body: bytes,
+        };
+        add(&mut args, 0, buffer)?;
+    } else {
+        add(&mut args, 0, fill)?;
+    }
+    form(alloc, nodes, Op::Declaration(Declaration::Name), args)
+}
+
 // Return (segment), with the number of the node that is the name.
 fn used(alloc: Global, nodes: &mut Vec<Node>, id: u32, segment: NameSeg) -> Result<(), AllocError> {
     let mut args = Vec::new(alloc);
@@ -170,8 +204,7 @@ fn called(
     id: u32,
     segment: NameSeg,
 ) -> Result<(), AllocError> {
-    let mut segs = Segs::new(alloc);
-    segs.push(segment)?;
+    let segs = Segs::one(segment);
     let mut args = Vec::new(alloc);
     add(&mut args, 0, Term::Integer(0))?;
     add(&mut args, 0, Term::Integer(1))?;
@@ -198,7 +231,8 @@ fn told(alloc: Global, names: &Entries, node: u32) -> Result<String, AllocError>
     Ok(format!(in alloc; "{kind:?} {arity} {line}.{column}")?)
 }
 
-// A method, aliases of it, a circle, an alias of nothing, and objects of other tables, each in a line of its own.
+// A method, aliases of it, a circle, an alias of nothing, objects of other tables, and a descriptor, an alias of it and a
+// Buffer, each in a line of its own.
 fn declared(alloc: Global) -> Result<Vec<Node>, AllocError> {
     let mut nodes = Vec::new(alloc);
     method(alloc, &mut nodes, 1, *b"MTHD", 10)?;
@@ -210,6 +244,9 @@ fn declared(alloc: Global) -> Result<Vec<Node>, AllocError> {
     external(alloc, &mut nodes, 7, *b"EXTM", 8, Some(3))?;
     external(alloc, &mut nodes, 8, *b"EXTU", 0, None)?;
     external(alloc, &mut nodes, 9, *b"EXTD", 6, None)?;
+    descriptor(alloc, &mut nodes, 10, 100, *b"DESC", false)?;
+    alias(alloc, &mut nodes, 11, *b"DESC", *b"ALI4")?;
+    descriptor(alloc, &mut nodes, 12, 101, *b"BUFF", true)?;
     Ok(nodes)
 }
 
@@ -261,6 +298,17 @@ fn others_are_as_they_are_said(rt: HostRuntime) -> Result<(), Fail> {
     assert_eq!(rt;
         rows.as_str(),
         "Method 3 7.2; Method 2 8.2; Device 0 9.2; Container 0 1.1; Method 1 1.1; Mutex 0 1.1; nothing; "
+    );
+    Ok(())
+}
+
+// A descriptor is declared by a Name of bytes alone, and an alias of it is one.
+#[test]
+fn descriptors_are_told(rt: HostRuntime) -> Result<(), Fail> {
+    let rows = rows(rt.alloc(), &[b"DESC", b"ALI4", b"BUFF"])?;
+    assert_eq!(rt;
+        rows.as_str(),
+        "Descriptor 0 10.2; Descriptor 0 11.2; Data 0 12.2; "
     );
     Ok(())
 }

@@ -11,7 +11,7 @@ use std::test::Fail;
 fn path(alloc: Global, text: &[u8]) -> Result<Path, AllocError> {
     let mut root = false;
     let mut up: u32 = 0;
-    let mut segs = Segs::new(alloc);
+    let mut segs = Vec::new(alloc);
     let mut seg = [b'_'; 4];
     let mut count: usize = 0;
     for byte in text {
@@ -31,7 +31,11 @@ fn path(alloc: Global, text: &[u8]) -> Result<Path, AllocError> {
             }
         }
     }
-    Ok(Path { root, up, segs })
+    Ok(Path {
+        root,
+        up,
+        segs: Segs::from_vec(alloc, segs)?,
+    })
 }
 
 fn add(nodes: &mut Vec<Node>, line: u32, column: u32, term: Term) -> Result<(), AllocError> {
@@ -86,7 +90,7 @@ fn arguments(
     for name in names.split(|byte| *byte == b'=') {
         let path = path(alloc, name)?;
         if key.first() == Some(&b'F') && column > 2 {
-            if let Some(segment) = path.segs.get(0) {
+            if let Some(segment) = path.segs.as_slice().get(0) {
                 let segment = *segment;
                 add(body, line, column, Term::Unit { segment, bits: 8 })?;
             }

@@ -142,14 +142,14 @@ fn names_are_spelled(rt: HostRuntime) -> Result<(), Fail> {
 
 // A name from the root.
 fn rooted(alloc: Global, segments: &[NameSeg]) -> Result<Term, AllocError> {
-    let mut segs = Segs::new(alloc);
+    let mut segs = Vec::new(alloc);
     for segment in segments {
         segs.push(*segment)?;
     }
     Ok(Term::Name(Path {
         root: true,
         up: 0,
-        segs,
+        segs: Segs::from_vec(alloc, segs)?,
     }))
 }
 

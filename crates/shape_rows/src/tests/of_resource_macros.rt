@@ -83,8 +83,7 @@ pub enum Given {
 use Given::{LeftOut, Letter, Name, Number};
 
 fn name(alloc: Global, segment: [u8; 4]) -> Result<Term, AllocError> {
-    let mut segs = Segs::new(alloc);
-    segs.push(segment)?;
+    let segs = Segs::one(segment);
     Ok(Term::Name(Path {
         root: false,
         up: 0,

@@ -159,14 +159,14 @@ struct Name {
 }
 
 fn written(alloc: Global, name: &Name) -> Result<Vec<u8>, AllocError> {
-    let mut segs = Segs::new(alloc);
+    let mut segs = Vec::new(alloc);
     for seg in name.segs {
         segs.push(**seg)?;
     }
     let path = Path {
         root: name.root,
         up: name.up,
-        segs,
+        segs: Segs::from_vec(alloc, segs)?,
     };
     if path.segs.len() > 255 {
         return Ok(Vec::new(alloc));

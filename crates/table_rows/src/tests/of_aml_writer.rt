@@ -14,8 +14,7 @@ const PLACE: Place = Place {
 };
 
 fn name(alloc: Global, seg: NameSeg) -> Result<Term, AllocError> {
-    let mut segs = Segs::new(alloc);
-    segs.push(seg)?;
+    let segs = Segs::one(seg);
     Ok(Term::Name(Path {
         root: false,
         up: 0,

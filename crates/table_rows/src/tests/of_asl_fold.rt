@@ -44,7 +44,7 @@ fn operand(alloc: Global, word: &[u8]) -> Term {
         b"X" => Term::Name(Path {
             root: false,
             up: 0,
-            segs: Segs::new(alloc),
+            segs: Segs::none(),
         }),
         _ => Term::Integer(decimal(word)),
     }

@@ -1,4 +1,4 @@
-use Rattle.std.proofs.Common.{get_or, Vec, Global, refl, sym, ap, ◌∙◌, arith}
+use Rattle.std.proofs.Common.{Vec, Global, refl, sym, ap, ◌∙◌, arith}
 use Rattle.acpi_values.specs.declared.operator.DataOp.TheVariants as DataOp
 use Rattle.acpi_values.specs.declared.operator.Plain.TheVariants as P
 use Rattle.asl_tree.specs.Tree.{Apply, Integer, no_trees, tree}
@@ -14,7 +14,7 @@ use Rattle.asl_fold.specs.declared.fate.Fate.TheVariants as F
 use Rattle.asl_fold.specs.declared.part.Listing.{Listing}
 use Rattle.asl_fold.specs.Folds.{last_of}
 use Rattle.asl_fold.specs.Nodes.{part_in, folded_by}
-use Rattle.asl_fold.proofs.Nodes.{IsFolded, member_folded, all_folded, others_folded, other_folded, call_folded, kept_folded, plain_folded, stays_folded}
+use Rattle.asl_fold.proofs.Nodes.{IsFolded, all_folded, leaf_folded, others_folded, other_folded, call_folded, kept_folded, plain_folded, stays_folded}
 use Rattle.asl_fold.proofs.Stored.{number_is}
 use Rattle.asl_fold.proofs.Places.{number_inside, plain_places, form_kept, call_kept}
 use Rattle.asl_fold.proofs.fold.+fold.Goals as goal
@@ -27,14 +27,14 @@ fold_nodes-returns-in-Others-clause-trees t c = others_folded c.args.width c.arg
 pub fold_nodes-loop-index-init : goal.fold_nodes-loop-index-init
 fold_nodes-loop-index-init t c = turns_none (λ k. IsFolded c.args.width (part_in c.args.listing k)) c.deref_mut-node-items.result.now
 
-pub fold_nodes-fold_part-requires : goal.fold_nodes-fold_part-requires
-fold_nodes-fold_part-requires t c =
+pub fold_nodes-fold_member-requires : goal.fold_nodes-fold_member-requires
+fold_nodes-fold_member-requires t c =
     omega (arith, c.decreases, turn_smaller (λ k. IsFolded c.args.width (part_in c.args.listing k)) c.deref_mut-node-items.result.now c.loop-index.node-items c.args.nodes.now.items c.loop-index.index c.node-item.result c.loop-index.invariant c.loop-index-test.true c.node-item.is c.deref_mut-node-items.ensures.value)
 
 pub fold_nodes-loop-index-preserved : goal.fold_nodes-loop-index-preserved
 fold_nodes-loop-index-preserved t c =
-    turns_next (λ k. IsFolded c.args.width (part_in c.args.listing k)) c.deref_mut-node-items.result.now c.loop-index.node-items c.loop-index.index c.node-item.result c.fold_part.new.node c.loop-index-test.true c.loop-index.invariant
-    (member_folded c.args.width (part_in c.args.listing) c.loop-index.index c.part_of.result (get_or c.loop-index.node-items c.loop-index.index c.node-item.result) c.fold_part.new.node c.part_of.ensures c.in_ok-fold_part.ensures.tree c.in_ok-fold_part.ensures.places)
+    turns_next (λ k. IsFolded c.args.width (part_in c.args.listing k)) c.deref_mut-node-items.result.now c.loop-index.node-items c.loop-index.index c.node-item.result c.fold_member.new.node c.loop-index-test.true c.loop-index.invariant
+    (record { is = c.in_ok-fold_member.ensures.tree; places = c.in_ok-fold_member.ensures.places })
 
 pub fold_nodes-returns-clause-trees : goal.fold_nodes-returns-clause-trees
 fold_nodes-returns-clause-trees t c =
@@ -47,6 +47,12 @@ fold_nodes-returns-clause-places t c =
     ap places_of (front_only c.loop-index.node-items _ c.args.nodes.now.len (omega (arith, c.deref_mut-node-items.ensures.len, c.loop-index.auto.node-items)))
     ∙ (all_folded c.args.width (part_in c.args.listing) c.deref_mut-node-items.result.now c.loop-index.node-items c.loop-index.index c.loop-index-test.false c.loop-index.invariant).1
     ∙ ap places_of c.deref_mut-node-items.ensures.value
+
+-- ---- a member
+
+pub fold_member-returns-in_default : goal.fold_member-returns-in_default
+fold_member-returns-in_default t c =
+    record { tree = leaf_folded c.args.width (part_in c.args.listing c.args.index) (at_of c.args.node.now) c.args.node.now.term c.in_default.not-Call c.in_default.not-Form; places = refl }
 
 -- ---- a term
 

@@ -1,4 +1,4 @@
-use Rattle.std.proofs.Common.{◌≡◌, ℕ, List, length, take}
+use Rattle.std.proofs.Common.{ℕ, List, take}
 use Rattle.acpi_state.specs.Objects.{lookup}
 use Rattle.acpi_names.specs.Shown.{all_shown}
 use Rattle.acpi_names.specs.Tables.{Tabled}
@@ -11,7 +11,5 @@ abbrev pub ghost-note : goal.ghost-note
 ghost-note g a = g.whole
 
 abbrev pub invariant-loop-mention : goal.invariant-loop-mention
-invariant-loop-mention g l = record {
-  size : length l.table.items ≡ length l.index.paths;
-  described : (said : List (ℕ × NamedDescriptor)) → SaysAt l.named said → Tabled l.index.paths l.table.items (lookup (described said (take l.mention-index (all_shown l.index.paths l.mentions))));
-}
+invariant-loop-mention g l =
+    (said : List (ℕ × NamedDescriptor)) → SaysAt l.named said → Tabled l.index.paths l.table.items (lookup (described said (take l.mention-index (all_shown l.index.paths l.mentions))))

@@ -12,7 +12,7 @@ loop-mention-preserved c d look agrees tabled =
     let mentions = c.args.mentions.now in
     let i = c.loop-mention.mention-index in
     subst (AreFields paths (is_named d) look c.note.new.fields) (sym (next_taken paths mentions i c.mention-item.result c.loop-mention-test.true c.mention-item.is))
-    (c.in_ok-note.ensures d look c.args.table.now (take i (all_shown paths mentions)) tabled (c.in_ok-sense.ensures.sense d look agrees tabled) (c.loop-mention.invariant d look agrees tabled))
+    (c.in_ok-note.ensures d look c.args.table.now (take i (all_shown paths mentions)) tabled (c.in_ok-sense.ensures d look agrees tabled) (c.loop-mention.invariant d look agrees tabled))
 
 pub returns : goal.returns
 returns c d look agrees tabled = subst (AreFields c.args.index.now.paths (is_named d) look c.loop-mention.fields) (taken_all c.args.index.now.paths c.args.mentions.now c.loop-mention.mention-index c.loop-mention-test.false) (c.loop-mention.invariant d look agrees tabled)

@@ -1,4 +1,4 @@
 use Rattle.descriptor_checks.proofs.told.tell_below.Given as goal
 
-abbrev pub ghost-tell_declared : goal.ghost-tell_declared
-ghost-tell_declared g a = g.whole
+abbrev pub ghost-declared_at : goal.ghost-declared_at
+ghost-declared_at g a = g.whole

@@ -1,5 +1,5 @@
 use Rattle.std.proofs.Common.{refl, arith}
-use Rattle.descriptor_fields.proofs.Said.{inside_form}
+use Rattle.asl_numbers.proofs.Trees.{form_inside}
 use Rattle.descriptor_fields.specs.Declaring.{declaring, with_names}
 use Rattle.descriptor_fields.proofs.Walks.{popped_count, reversed_count, begin_each, next_each, end_each}
 use Rattle.descriptor_fields.proofs.declare.+declare.Goals as goal
@@ -25,4 +25,4 @@ pub declaring-returns : goal.declaring-returns
 declaring-returns t c = end_each declaring with_names refl (λ place p ps. refl) c.loop-node.left.items c.loop-node.out.items _ (omega (arith, c.in_default.ensures.cases.0)) c.loop-node.invariant.plans
 
 pub open-declaring-requires : goal.open-declaring-requires
-open-declaring-requires t c = omega (arith, c.decreases, inside_form c.args.term c.in-Form.op c.in-Form.args c.in-Form.body c.in-Form.args.items c.in-Form.body.items c.in-Form.is refl refl)
+open-declaring-requires t c = omega (arith, c.decreases, form_inside c.args.term c.in-Form.op c.in-Form.args c.in-Form.body c.in-Form.is)

@@ -1,4 +1,4 @@
-use Rattle.descriptor_shapes.proofs.Whole.{checked_whole}
+use Rattle.descriptor_shapes.proofs.Resolved.{checked_whole}
 use Rattle.descriptor_shapes.proofs.laws.checked_are_whole.Goals as goal
 
 pub returns : goal.returns

@@ -6,4 +6,4 @@ pub places_of-requires : goal.places_of-requires
 places_of-requires g c = (c.requires.0.agrees, c.requires.1)
 
 pub returns-clause-each : goal.returns-clause-each
-returns-clause-each g c = c.in_ok-said.ensures.each (placed_all (all_shown c.args.facts.now.index.paths c.args.mentions.now) no_places) c.in_ok-places.ensures.placed
+returns-clause-each g c nodes flagged = c.in_ok-said.ensures.each (placed_all (all_shown c.args.facts.now.index.paths c.args.mentions.now) no_places) c.in_ok-places.ensures.placed nodes flagged

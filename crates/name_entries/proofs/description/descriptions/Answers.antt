@@ -9,6 +9,6 @@ loop-number-preserved g c =
     let i = c.loop-number.number in
     record {
       size = ap length c.in_ok-push.ensures.items ∙ omega (arith, length-append c.loop-number.said.items (c.describe.result ∷ []), c.loop-number.invariant.size);
-      each = λ p placed. subst (λ said. (n : ℕ) → n < i + 1 → get_or said n None ≡ described_by g.whole p (get_or paths n [])) (sym c.in_ok-push.ensures.items)
-          (said_more c.loop-number.said.items c.describe.result i (λ n. described_by g.whole p (get_or paths n [])) c.loop-number.invariant.size (c.loop-number.invariant.each p placed) (c.describe.ensures p placed));
+      each = λ p placed nodes flagged. subst (λ said. (n : ℕ) → n < i + 1 → get_or said n None ≡ described_by nodes g.whole p (get_or paths n [])) (sym c.in_ok-push.ensures.items)
+          (said_more c.loop-number.said.items c.describe.result i (λ n. described_by nodes g.whole p (get_or paths n [])) c.loop-number.invariant.size (c.loop-number.invariant.each p placed nodes flagged) (c.describe.ensures p placed nodes flagged));
     }

@@ -1,5 +1,6 @@
 use Rattle.std.proofs.Common.{List, [], Option, None, get_or, refl, sym, ap, ◌∙◌, subst}
 use Rattle.asl_tree.specs.View.{trees_of}
+use Rattle.asl_tree.specs.declared.term.Node.{Node}
 use Rattle.asl_meaning.specs.Declarations.{declarations, is_named, nothing_declared}
 use Rattle.acpi_names.specs.Mentions.{block_mentions}
 use Rattle.acpi_names.specs.Parts.{Agrees}
@@ -10,6 +11,7 @@ use Rattle.acpi_names.proofs.Mentions.{after_block}
 use Rattle.name_kinds.specs.Facts.{Knows}
 use Rattle.name_kinds.specs.Seen.{seen}
 use Rattle.name_kinds.proofs.Seeing.{block_seen}
+use Rattle.name_entries.specs.Descriptors.{AreFlagged, descriptors_among}
 use Rattle.name_entries.specs.Entries.{described, described_by, entry_said, entry_in}
 use Rattle.name_entries.specs.Placed.{no_places, placed_all}
 use Rattle.name_entries.specs.Uses.{denoted_in}
@@ -43,11 +45,14 @@ returns-clause-entries c are number =
     let program = trees_of c.args.terms.now in
     let said = c.in_ok-said.said.items in
     let told = ap (all_shown paths) c.deref.ensures.value ∙ c.in_ok-known.ensures.known.mentions ∙ ap (λ ns. block_mentions (trees_of ns) [] nothing_declared) c.in_ok-known.ensures.terms in
+    let nodes = descriptors_among program in
+    let flagged = subst (λ flags. AreFlagged flags nodes) (sym c.deref-2.ensures.value)
+    (subst (λ (ns : List Node). AreFlagged c.in_ok-flags.flags.items (descriptors_among (trees_of ns))) c.in_ok-known.ensures.terms c.in_ok-flags.ensures) in
     c.in_ok-entries.ensures number
-    ∙ ap (λ (ds : List (Option Description)). entry_said paths number (get_or ds number None)) c.deref-2.ensures.value
+    ∙ ap (λ (ds : List (Option Description)). entry_said paths number (get_or ds number None)) c.deref-3.ensures.value
     ∙ ap (entry_said paths number)
     (said_each paths said (described program) c.in_ok-said.ensures.size
-    (λ n lt. c.in_ok-said.ensures.each n lt ∙ ap (λ ms. described_by (seen ms) (placed_all ms no_places) (get_or paths n [])) told
-    ∙ ap (λ w. described_by w (placed_all (block_mentions program [] nothing_declared) no_places) (get_or paths n [])) (block_seen program are)) number)
+    (λ n lt. c.in_ok-said.ensures.each nodes flagged n lt ∙ ap (λ ms. described_by nodes (seen ms) (placed_all ms no_places) (get_or paths n [])) told
+    ∙ ap (λ w. described_by nodes w (placed_all (block_mentions program [] nothing_declared) no_places) (get_or paths n [])) (block_seen program are)) number)
     ∙ entry_said_in paths number (described program)
     ∙ ap (λ (i : Index). entry_in program i.paths number) (sym c.into_names-index.ensures.index)

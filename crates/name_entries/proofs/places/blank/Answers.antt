@@ -7,5 +7,6 @@ use Rattle.name_entries.proofs.places.blank.Goals as goal
 pub returns-clause-placed : goal.returns-clause-placed
 returns-clause-placed c = record {
   declared = λ path. ap (λ t. entry_at t (number_in c.args.paths.now path)) c.loop-number.invariant.declared ∙ no_entry c.loop-number.number (number_in c.args.paths.now path);
+  nodes = λ path. ap (λ t. entry_at t (number_in c.args.paths.now path)) c.loop-number.invariant.nodes ∙ no_entry c.loop-number.number (number_in c.args.paths.now path);
   external = λ path. ap (λ t. entry_at t (number_in c.args.paths.now path)) c.loop-number.invariant.external ∙ no_entry c.loop-number.number (number_in c.args.paths.now path);
 }

@@ -1,14 +1,14 @@
-use Rattle.std.proofs.Common.{◌∷◌, sym, subst}
+use Rattle.std.proofs.Common.{sym, subst}
 use Rattle.asl_meaning.specs.Declarations.{in_root}
-use Rattle.acpi_names.specs.Shown.{shown}
-use Rattle.name_entries.specs.Placed.{ArePlaced, placed, with_outside}
+use Rattle.acpi_names.specs.Shown.{shown, spot_as}
+use Rattle.name_entries.specs.Placed.{ArePlaced, placed, with_declared, with_outside}
 use Rattle.name_entries.proofs.places.note.Goals as goal
 
 pub returns-in-Declares-clause-placed : goal.returns-in-Declares-clause-placed
 returns-in-Declares-clause-placed g c p before =
     let paths = c.args.index.now.paths in
     subst (λ m. ArePlaced paths c.note_declared.new.tables (placed (shown paths m) p)) (sym c.in-Declares.is)
-    (subst (λ q. ArePlaced paths c.note_declared.new.tables (record p { declared = (q, c.in-Declares.at.place) ∷ p.declared })) c.declared_at-number.ensures.path (c.note_declared.ensures.placed p before))
+    (subst (λ q. ArePlaced paths c.note_declared.new.tables (with_declared q (spot_as c.in-Declares.at) p)) c.declared_at-number.ensures.path (c.note_declared.ensures.placed p before))
 
 pub returns-in-Outside-clause-placed : goal.returns-in-Outside-clause-placed
 returns-in-Outside-clause-placed g c p before =

@@ -1,9 +1,9 @@
-use Rattle.std.proofs.Common.{◌++◌, sym, ap, ◌∙◌, refl, append-nil, arith}
-use Rattle.asl_shape.specs.Plans.{plan_of}
+use Rattle.std.proofs.Common.{◌≡◌, ◌++◌, length, sym, ap, ◌∙◌, refl, append-nil, arith}
+use Rattle.asl_shape.specs.Plans.{plan_of, plans_of}
 use Rattle.asl_shape.proofs.Terms.{arg_term}
 use Rattle.asl_numbers.proofs.Loops.{smaller}
-use Rattle.statement_checks.specs.Statements.{term_errors, argument_errors}
-use Rattle.statement_checks.proofs.Terms.{call_is, inside_call, inside_form, form_told, nothing_wrong}
+use Rattle.statement_checks.specs.Statements.{around_body, term_errors, argument_errors}
+use Rattle.statement_checks.proofs.Terms.{call_is, inside_call, inside_form, form_told, none_behind, nothing_wrong}
 use Rattle.statement_checks.proofs.Walk.{next_checked, all_checked}
 use Rattle.statement_checks.proofs.check.+walk.Goals as goal
 
@@ -42,6 +42,15 @@ term_errors-returns-in_ok-all_errors-in-Form-2 t c =
     c.misses_loop-wrong.result c.args.out.now c.tell_if-in-Form.new.out c.all_errors-in-Form.new.out c.all_errors-in-Form-2.new.out
     c.in-Form.is c.deref-in-Form.ensures.value c.deref-in-Form-2.ensures.value c.deref-in-Form-3.ensures.value c.misses_loop-wrong.ensures c.around_body.ensures
     c.in_ok-tell_if-in-Form.ensures c.in_ok-all_errors-in-Form.ensures c.in_ok-all_errors-in-Form-2.ensures
+
+pub term_errors-returns-then-is_empty : goal.term_errors-returns-then-is_empty
+term_errors-returns-then-is_empty t c =
+    let none : length c.in-Form.body.items ≡ 0 = grind (arith, c.is_empty.ensures, c.if-is_empty.true) in
+    let inner = around_body c.in-Form.op (plans_of c.deref-in-Form.result.now) c.args.around in
+    form_told c.args.around inner c.args.node.now.place c.args.node.now.term c.in-Form.op c.in-Form.args c.in-Form.body c.deref-in-Form.result.now c.in-Form.body.items c.deref-in-Form.result.now
+    c.misses_loop-wrong.result c.args.out.now c.tell_if-in-Form.new.out c.all_errors-in-Form.new.out c.all_errors-in-Form.new.out
+    c.in-Form.is c.deref-in-Form.ensures.value refl c.deref-in-Form.ensures.value c.misses_loop-wrong.ensures refl
+    c.in_ok-tell_if-in-Form.ensures c.in_ok-all_errors-in-Form.ensures (none_behind inner c.in-Form.body.items c.all_errors-in-Form.new.out none)
 
 pub term_errors-returns-in_default : goal.term_errors-returns-in_default
 term_errors-returns-in_default t c =

@@ -1,4 +1,4 @@
-use Rattle.std.proofs.Common.{◌^◌, ◌≤◌, sym, ap, ◌∙◌, refl, arith}
+use Rattle.std.proofs.Common.{◌^◌, ◌≤◌, sym, ◌∙◌, refl, arith}
 use Rattle.asl_shape.specs.Plans.{plan_of, plans_of}
 use Rattle.asl_numbers.specs.Numbers.{inside, nodes}
 use Rattle.asl_numbers.proofs.Loops.{smaller}

@@ -1,17 +1,12 @@
-use Rattle.std.proofs.Common.{[], ap, ◌∙◌, subst}
-use Rattle.std.proofs.Math.Path.{fun_ext}
+use Rattle.std.proofs.Common.{ap, ◌∙◌, subst}
 use Rattle.acpi_state.specs.Outcomes.{choose}
 use Rattle.asl_tree.specs.View.{trees_of}
-use Rattle.asl_meaning.specs.Declarations.{nothing_declared}
 use Rattle.acpi_names.specs.Errors.{whole_of}
-use Rattle.acpi_names.specs.Mentions.{block_mentions}
 use Rattle.name_kinds.specs.Facts.{Knows}
 use Rattle.name_kinds.proofs.Seeing.{block_seen}
-use Rattle.name_entries.specs.Placed.{no_places, placed_all}
-use Rattle.name_entries.specs.Uses.{denoted_in}
 use Rattle.name_entries.specs.declared.kind.ObjectType.TheVariants as N
 use Rattle.type_checks.specs.Names.{kind_known}
-use Rattle.type_checks.proofs.Naming.{led, known_said}
+use Rattle.type_checks.proofs.Naming.{led}
 use Rattle.type_checks.proofs.names.all_named.Goals as goal
 
 pub named_each-requires : goal.named_each-requires
@@ -24,4 +19,3 @@ returns c node =
     let kind = kind_known (whole_of program) in
     c.in_ok-all.ensures node ∙ ap (λ uses. led known.facts.index.paths kind uses node) c.deref.ensures.value
     ∙ ap (λ o. choose o N.Data kind) (c.in_ok-uses.ensures node)
-    ∙ ap (choose (denoted_in program node) N.Data) (fun_ext (known_said (whole_of program) (placed_all (block_mentions program [] nothing_declared) no_places)))

@@ -1,5 +1,4 @@
 use Rattle.std.proofs.Common.{◌++◌, sym, ap, ◌∙◌, refl, append-nil, arith}
-use Rattle.asl_shape.specs.Plans.{plan_of}
 use Rattle.asl_numbers.proofs.Loops.{smaller}
 use Rattle.type_checks.specs.Sizes.{term_errors}
 use Rattle.type_checks.proofs.Terms.{call_is, inside_call, inside_form}

@@ -1,4 +1,0 @@
-use Rattle.descriptor_checks.proofs.told.tell_declared.Given as goal
-
-abbrev pub ghost-declared_at : goal.ghost-declared_at
-ghost-declared_at g a = g.whole
