@@ -16,3 +16,6 @@ pub mod Homes
 pub mod Skipped
 pub mod Onward
 pub mod Next
+pub mod Calling
+pub mod Operating
+pub mod Bracketed

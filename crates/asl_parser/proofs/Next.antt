@@ -1,10 +1,9 @@
 -- A word or path behind an expression.
-use Rattle.std.proofs.Common.{◌≡◌, ℕ, ◌+◌, ◌≤◌, Bool, true, false, nat_le, List, [], ◌∷◌, Option, Some, None, Result, Ok, Err, refl, sym, ap, ◌∙◌, subst, arith}
+use Rattle.std.proofs.Common.{◌≡◌, ℕ, ◌≤◌, Bool, true, false, nat_le, List, [], ◌∷◌, Option, Some, None, Result, Ok, Err, refl, sym, ap, ◌∙◌, arith}
 use Rattle.std.specs.Prelude.{if◌then◌else◌}
 use Rattle.asl_lexer.specs.declared.token.TokenKind.{TokenKind}
 use Rattle.asl_lexer.specs.declared.token.TokenKind.TheVariants as t
 use Rattle.asl_parser.specs.declared.mark.Spot.{Spot}
-use Rattle.asl_parser.specs.declared.mark.Lexeme.{Lexeme}
 use Rattle.asl_parser.specs.declared.mark.Lexeme.TheVariants as l
 use Rattle.asl_parser.specs.declared.subtree.Subtree.{Subtree}
 use Rattle.asl_parser.specs.declared.subtree.Subtrees.{Subtrees}
@@ -30,7 +29,7 @@ either : (b : Bool) (v w : Subtree × List Frame) (n : ℕ) → depth v.1 ≤ n 
 either true v w n h k = h
 either false v w n h k = k
 
-settled_low : (pull : ℕ) (e : Subtree) (fs : List Frame) → depth (settle pull e fs).1 ≤ depth fs
+pub settled_low : (pull : ℕ) (e : Subtree) (fs : List Frame) → depth (settle pull e fs).1 ≤ depth fs
 unfolding settle
 settled_low pull e [] = omega arith
 settled_low pull e (f.Unit done ∷ fs) = omega arith

@@ -31,7 +31,7 @@ once e (f.Index q left ∷ fs) level most p o h = absurd cc
 once e (f.List q done ∷ fs) level most p o h = absurd cc
 once e (f.Pending m n q i xs ∷ fs) level most p o h = cc
 
-over : (p : Spot) (o : Infix) (done : Subtrees) (e t : Subtree) (first : ℕ) (v : Subtrees) → first ≡ leading p.token done.levels → v ≡ joined done e → t ≡ node_over first (apply_raw p o v.raws) v.levels → t ≡ applied p o done e
+pub over : (p : Spot) (o : Infix) (done : Subtrees) (e t : Subtree) (first : ℕ) (v : Subtrees) → first ≡ leading p.token done.levels → v ≡ joined done e → t ≡ node_over first (apply_raw p o v.raws) v.levels → t ≡ applied p o done e
 unfolding applied
 over p o done e t first v first_is v_is t_is =
     t_is ∙ ap (λ (n : ℕ). node_over n (apply_raw p o v.raws) v.levels) first_is ∙ ap (λ (u : Subtrees). node_over (leading p.token done.levels) (apply_raw p o u.raws) u.levels) v_is

@@ -21,12 +21,12 @@ use Rattle.asl_parser.specs.Steps.{is_args, is_body}
 
 -- ---- one step
 
-walk_once : (ok : ℕ → Bool) (x : Mark) (ms : List Mark) (a b : ParserState) (fs gs : List Frame) → ok (depth fs) ≡ true → step x a fs ≡ Some (b, gs) → walk ok (x ∷ ms) a fs ≡ walk ok ms b gs
+pub walk_once : (ok : ℕ → Bool) (x : Mark) (ms : List Mark) (a b : ParserState) (fs gs : List Frame) → ok (depth fs) ≡ true → step x a fs ≡ Some (b, gs) → walk ok (x ∷ ms) a fs ≡ walk ok ms b gs
 unfolding walk
 walk_once ok x ms a b fs gs low is = rw low (ap (λ (n : Option Config). elim n [ None ↦ stop (x ∷ ms) | Some c ↦ walk ok ms c.0 c.1 ]) is)
 
 -- what was read last behind such a token
-abbrev behind : Spot → Lexeme → ParserState
+abbrev pub behind : Spot → Lexeme → ParserState
 behind p (l.Word path w) = st.Word p w
 behind p (l.Number n) = st.Whole (leaf p.token (raw.Number p.place n))
 behind p (l.Text t) = st.Whole (leaf p.token (raw.Text p.place t))
@@ -77,7 +77,7 @@ goes u p x e r w done fs comma is = ap (λ (y : Lexeme). step_by u.spot y (behin
 ends : (u : Mark) (p : Spot) (x : Lexeme) (e : Subtree) (r : Spot) (w : List ℕ) (done : Subtrees) (fs : List Frame) → u.lexeme ≡ l.Sign s.RightParen → plain_by p x ≡ Some e → step u (behind p x) (f.Args r w done ∷ fs) ≡ Some (st.Called r w (joined done e), fs)
 ends u p x e r w done fs paren is = ap (λ (y : Lexeme). step_by u.spot y (behind p x) (f.Args r w done ∷ fs)) paren ∙ ends_by u.spot p x e r w done fs is
 
-goes_over : (t u : Mark) (a : ParserState) (e : Subtree) (fs gs : List Frame) → IsArgument a → is_args (kind_of fs) ≡ true → u.lexeme ≡ l.Sign s.Comma → plain t ≡ Some e → gs ≡ added e fs → PassesMarks (t ∷ u ∷ []) (a, fs) (st.Argument, gs)
+pub goes_over : (t u : Mark) (a : ParserState) (e : Subtree) (fs gs : List Frame) → IsArgument a → is_args (kind_of fs) ≡ true → u.lexeme ≡ l.Sign s.Comma → plain t ≡ Some e → gs ≡ added e fs → PassesMarks (t ∷ u ∷ []) (a, fs) (st.Argument, gs)
 goes_over t u a e [] gs h args comma is new = absurd cc
 goes_over t u a e (f.Unit done ∷ fs) gs h args comma is new = absurd cc
 goes_over t u a e (f.Body r w inner done ∷ fs) gs h args comma is new = absurd cc
@@ -92,7 +92,7 @@ goes_over t u a e (f.Args r w done ∷ fs) gs h args comma is new =
           ∙ walk_once ok u rest (behind t.spot t.lexeme) st.Argument (f.Args r w done ∷ fs) (f.Args r w (joined done e) ∷ fs) low (goes u t.spot t.lexeme e r w done fs comma is),
     )
 
-ends_over : (t u : Mark) (a : ParserState) (e : Subtree) (fs mid : List Frame) (v : Subtrees × List Frame) (p : Spot) (name : List ℕ) → IsArgument a → is_args (kind_of fs) ≡ true → u.lexeme ≡ l.Sign s.RightParen → plain t ≡ Some e → mid ≡ added e fs → kind_of mid ≡ k.Args p name
+pub ends_over : (t u : Mark) (a : ParserState) (e : Subtree) (fs mid : List Frame) (v : Subtrees × List Frame) (p : Spot) (name : List ℕ) → IsArgument a → is_args (kind_of fs) ≡ true → u.lexeme ≡ l.Sign s.RightParen → plain t ≡ Some e → mid ≡ added e fs → kind_of mid ≡ k.Args p name
     → v ≡ (done_of mid, around mid) → PassesMarks (t ∷ u ∷ []) (a, fs) (st.Called p name v.0, v.1)
 ends_over t u a e [] mid v p name h args paren is new kind v_is = absurd cc
 ends_over t u a e (f.Unit done ∷ fs) mid v p name h args paren is new kind v_is = absurd cc

@@ -317,3 +317,21 @@ frames_appended nodes more hand g o os d first raw h trees none is start kept_is
     ∙ frames_added now one g o os d stack trees is_one start (kept_is ∙ sym (and_true o.group.kept)) levels
     ∙ ap (λ (us : List Raw). added (tree_of (record { raws = Some us; levels = first ∷ [] })) (frames_of (o ∷ os) (take n now))) last
     ∙ ap (λ (us : List Raw). added (leaf first raw) (frames_of (o ∷ os) us)) (front ∙ sym all)
+
+-- ---- a node is held behind what is held
+
+kept_more : (b : Bool) (xs : List Raw) (raw : Raw) → kept b (xs ++ raw ∷ []) ≡ join (kept b xs) (Some raw)
+kept_more true xs raw = refl
+kept_more false xs raw = refl
+
+pub held_behind : (nodes more : List Raw) (hand g : FrameGroup) (os : List OpenFrame) (first : ℕ) (raw : Raw) → hand.start ≤ length nodes → more ≡ nodes ++ raw ∷ [] → g.start ≡ hand.start → g.kept ≡ hand.kept → g.levels ≡ merged hand.levels (first ∷ [])
+    → ◌≡◌ {A = Subtrees × List Frame} (trees_of g more, frames_of os (take g.start more)) (joined (trees_of hand nodes) (leaf first raw), frames_of os (take hand.start nodes))
+unfolding joined
+held_behind nodes more hand g os first raw h is start kept_is levels =
+    let front : take g.start more ≡ take hand.start nodes = ap (λ (i : ℕ). take i more) start ∙ ap (take hand.start) is ∙ take-append-le hand.start nodes (raw ∷ []) h in
+    let raws : kept g.kept (drop g.start more) ≡ join (kept hand.kept (drop hand.start nodes)) (Some raw)
+    = ap (λ (b : Bool). kept b (drop g.start more)) kept_is ∙ ap (λ (i : ℕ). kept hand.kept (drop i more)) start ∙ ap (λ (us : List Raw). kept hand.kept (drop hand.start us)) is
+    ∙ ap (kept hand.kept) (drop-append-le hand.start nodes (raw ∷ []) h) ∙ kept_more hand.kept (drop hand.start nodes) raw in
+    let trees : trees_of g more ≡ joined (trees_of hand nodes) (leaf first raw)
+    = ap (λ (r : Option (List Raw)). record { raws = r; levels = g.levels }) raws ∙ ap (λ (l : List ℕ). record { raws = join (kept hand.kept (drop hand.start nodes)) (Some raw); levels = l }) levels in
+    ap (λ (t : Subtrees). (t, frames_of os (take g.start more))) trees ∙ ap (λ (us : List Raw). (joined (trees_of hand nodes) (leaf first raw), frames_of os us)) front

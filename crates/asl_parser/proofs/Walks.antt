@@ -32,7 +32,7 @@ at_place ts i t h is =
 
 -- ---- steps
 
-walk_on : (bound : ℕ) (x : Mark) (ms : List Mark) (a : ParserState) (fs : List Frame) (m : Option Config) → depth fs ≤ bound → step x a fs ≡ m → walk (within bound) (x ∷ ms) a fs ≡ elim m [ None ↦ stop (x ∷ ms) | Some c ↦ walk (within bound) ms c.0 c.1 ]
+pub walk_on : (bound : ℕ) (x : Mark) (ms : List Mark) (a : ParserState) (fs : List Frame) (m : Option Config) → depth fs ≤ bound → step x a fs ≡ m → walk (within bound) (x ∷ ms) a fs ≡ elim m [ None ↦ stop (x ∷ ms) | Some c ↦ walk (within bound) ms c.0 c.1 ]
 unfolding walk
 walk_on bound x ms a fs m low is = rw (le-leb (depth fs) bound low) (ap (λ (n : Option Config). elim n [ None ↦ stop (x ∷ ms) | Some c ↦ walk (within bound) ms c.0 c.1 ]) is)
 

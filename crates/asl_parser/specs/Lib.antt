@@ -17,3 +17,5 @@ pub mod Written
 pub mod Within
 pub mod Pairs
 pub mod Reading
+pub mod Calls
+pub mod Operating

@@ -10,7 +10,7 @@ use Rattle.asl_parser.specs.declared.subtree.Subtrees.{Subtrees}
 use Rattle.asl_parser.specs.declared.frame.Frame.{Frame}
 use Rattle.asl_parser.specs.declared.frame.ParserState.{ParserState}
 use Rattle.asl_parser.specs.declared.frame.ParserState.TheVariants as st
-use Rattle.asl_parser.specs.Grow.{leaf, item, no_subtrees}
+use Rattle.asl_parser.specs.Grow.{leaf, item, no_subtrees, joined}
 use Rattle.asl_parser.specs.Machine.{Config, depth, walk}
 use Rattle.asl_parser.specs.Opens.{added}
 
@@ -35,6 +35,12 @@ abbrev pub AddsNode : Bool → Option Subtree → Subtrees × List Frame → Sub
 AddsNode true (Some e) old new = new ≡ (no_subtrees, added e old.1)
 AddsNode true None old new = ⊥
 AddsNode false tree old new = new ≡ old
+
+-- The tree, if there is one, is held behind what was held, or nothing was done.
+abbrev pub HoldsNode : Bool → Option Subtree → Subtrees × List Frame → Subtrees × List Frame → Type 0
+HoldsNode true (Some e) old new = new ≡ (joined old.0 e, old.1)
+HoldsNode true None old new = ⊥
+HoldsNode false tree old new = new ≡ old
 
 -- Whatever stands behind these tokens, the reading comes over them from the one to the other, where no more is open.
 abbrev pub PassesMarks : List Mark → Config → Config → Type 0

@@ -14,6 +14,11 @@ abbrev pub Advances : List Mark → ℕ → ℕ → Config → Config → Type 0
 Advances all at next before now = (at < next) × (next ≤ length all) × (depth now.1 ≤ limit)
     × (walk (within limit) (drop at all) before.0 before.1 ≡ walk (within limit) (drop next all) now.0 now.1)
 
+-- The same, where there may be no token between the places.
+abbrev pub Passes : List Mark → ℕ → ℕ → Config → Config → Type 0
+Passes all at next before now = (at ≤ next) × (next ≤ length all) × (depth now.1 ≤ limit)
+    × (walk (within limit) (drop at all) before.0 before.1 ≡ walk (within limit) (drop next all) now.0 now.1)
+
 -- A walk from this place on ends so, unless memory runs out.
 abbrev pub FailsAt : Syntax → List Mark → ℕ → Config → Type 0
 FailsAt fault all at before = EndsIn (Err fault) all (walk (within limit) (drop at all) before.0 before.1)

@@ -183,6 +183,17 @@ impl Levels {
         self.lift(alloc, later)
     }
 
+    /// Puts a tree of one node behind these, with this first token.
+    #[inline(always)]
+    #[tactic(auto, unfolding(crate::specs::Grow::merged), using(crate::proofs::Heights::merged_same, crate::proofs::Merged::merged_none))]
+    pub fn join_one(&mut self, alloc: Global, first: u32)
+        ensures { self.new ≡ spec.merged self.old (first ∷ []) }
+    {
+        if self.len() == 0 {
+            *self = Levels::of_one(alloc, first);
+        }
+    }
+
     // Puts trees of more levels behind these.
     #[inline(never)]
     fn lift(&mut self, alloc: Global, later: Levels) -> Result<(), AllocError>

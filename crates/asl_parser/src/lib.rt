@@ -1,14 +1,17 @@
 //! The syntax of a source: its tokens to the one tree that spells them.
 #![tactic(auto)]
 
+mod calls;
 mod finish;
 mod frame;
 mod levels;
 mod machine;
 mod mark;
 mod open;
+mod operators;
 mod pairs;
 mod place;
+mod plain;
 mod raw;
 mod reader;
 mod sign;

@@ -1,6 +1,6 @@
 //! What one token does.
-ghost use Rattle.std.specs.Prelude.{◌≡◌, ◌∷◌, ◌+◌, ◌^◌, ◌<◌, suc, Some, true, OnOk};
-ghost use Rattle.asl_parser.specs.Grow.{no_subtrees, leaf, posted};
+ghost use Rattle.std.specs.Prelude.{◌≡◌, ◌∷◌, ◌+◌, ◌^◌, ◌<◌, suc, Some, None, true, OnOk};
+ghost use Rattle.asl_parser.specs.Grow.{no_subtrees, item, leaf, posted};
 ghost use Rattle.asl_parser.specs.Looks.{lexeme_of};
 ghost use Rattle.asl_parser.specs.Marks.{mark, lexeme};
 ghost use Rattle.asl_parser.specs.Machine as spec;
@@ -716,6 +716,29 @@ pub fn word_on(
     };
     let word = stack.copy(&first.text)?;
     after_word(stack, stage, place, word, spot, look, second)
+}
+
+/// Holds a word or path that begins an expression, and has neither arguments nor a body.
+pub fn hold_word(
+    stack: &mut Stack,
+    stage: &mut Stage,
+    number: u32,
+    token: &Token,
+) -> Result<(), AllocError>
+    requires { stack.old.0 ≡ no_subtrees }
+    ensures tree { OnOk result (tree_of stack.new.0 ≡ item (mark number token.now).spot token.now.text None None) }
+    ensures one { OnOk result (IsOne stack.new.0) }
+    ensures frames { OnOk result (stack.new.1 ≡ stack.old.1) }
+    ensures stage { OnOk result (stage.new ≡ stages.Whole) }
+{
+    let spot = Spot {
+        token: number,
+        place: token.place,
+    };
+    let word = stack.copy(&token.text)?;
+    stack.name(spot, word)?;
+    *stage = Stage::Whole;
+    Ok(())
 }
 
 // Ends the expression that is held, behind which a word or path comes: it is a member of a body, or an item of the source.

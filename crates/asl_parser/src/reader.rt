@@ -1,23 +1,32 @@
 //! From tokens to the tree.
-ghost use Rattle.std.specs.Prelude.{◌≡◌, ◌+◌, ◌<◌, ◌≤◌, ◌^◌, ℕ, true, length, List, All, IfOk, OnOk, IfErr};
+ghost use Rattle.std.specs.Prelude.{◌≡◌, ◌+◌, ◌<◌, ◌≤◌, ◌^◌, ℕ, true, length, get_or, List, All, IfOk, OnOk, IfErr};
+ghost use Rattle.asl_parser.specs.Looks.{lexeme_of};
 ghost use Rattle.asl_parser.specs.Machine as spec;
-ghost use Rattle.asl_parser.specs.Marks.{marks};
+ghost use Rattle.asl_parser.specs.Marks.{mark, marks, lexeme};
 ghost use Rattle.asl_parser.specs.Parse.{HasOutcome, EndsIn, Gives, Fails, outcome};
 ghost use Rattle.asl_parser.specs.Reading.{Advances, FailsAt, ComesTo};
-ghost use Rattle.asl_parser.specs.Stages.{state_of, Holds, ends as stage_ends};
+ghost use Rattle.asl_parser.specs.Stages.{state_of, Holds, begins as stage_begins, ends as stage_ends};
 ghost use Rattle.asl_parser.specs.Grammar.{Spells};
 ghost use Rattle.asl_parser.specs.Depth.{IsShallow, IsLow};
-ghost use Rattle.asl_parser.specs.Grow.{limit};
+ghost use Rattle.asl_parser.specs.Grow.{limit, no_subtrees};
 ghost use Rattle.asl_parser.specs.Within.{AreWithin};
 ghost use Rattle.asl_parser.specs.Written.{writtens};
+ghost use Rattle.asl_parser.specs.declared.frame.ParserState.TheVariants as states;
+ghost use Rattle.asl_parser.specs.declared.mark.Look.TheVariants as looks;
 ghost use Rattle.asl_parser.specs.declared.raw.Raw.{Raw};
+ghost use Rattle.asl_parser.specs.declared.sign.Sign.TheVariants as signs;
+ghost use Rattle.asl_parser.specs.declared.stage.Stage.TheVariants as stages;
+ghost use Rattle.asl_parser.specs.Operating.{IsOperator};
 
+use crate::calls::call;
 use crate::finish::finish;
 use crate::frame::Refusal;
-use crate::machine::{end_expression, step, word_on};
-use crate::mark::{is_word, look_of};
+use crate::machine::{end_expression, hold_word, step, word_on};
+use crate::mark::{Look, is_word, look_of};
+use crate::operators::{bracket, operate};
 use crate::pairs::skip_pair;
 use crate::raw::RawUnit;
+use crate::sign::Sign;
 use crate::stack::Stack;
 use crate::stage::{Stage, begins, ends};
 use crate::subtree::{Subtrees, TALLEST};
@@ -100,6 +109,122 @@ fn single(
     moved(stack, made, at)
 }
 
+// Whether an operator between two operands looks so.
+fn is_operator(look: Look) -> bool
+    ensures { result ≡ true → IsOperator look }
+{
+    matches!(look, Look::Sign(Sign::Binary(_)))
+}
+
+// Reads the token behind an expression, which is held, and where it is an operator its last operand, if that can be.
+#[inline(always)]
+fn operated(
+    stack: &mut Stack,
+    stage: &mut Stage,
+    tokens: &[Token],
+    at: usize,
+) -> Result<usize, Syntax>
+    requires few { length tokens.now < 2 ^ 32 }
+    requires within { at < length tokens.now }
+    requires whole { stage.old ≡ stages.Whole }
+    requires holds { Holds stage.old stack.old.0 }
+    requires low { spec.depth stack.old.1 ≤ limit }
+    ensures advances { IfOk result (λ next. Advances (marks 0 tokens.now) at next (state_of stage.old stack.old.0, stack.old.1)
+        (state_of stage.new stack.new.0, stack.new.1)) }
+    ensures holds { OnOk result (Holds stage.new stack.new.0) }
+    ensures fails { IfErr result (λ fault. FailsAt fault (marks 0 tokens.now) at (state_of stage.old stack.old.0, stack.old.1)) }
+{
+    if tokens.len() - at <= 2 || DEEPEST <= stack.depth() {
+        return single(stack, stage, tokens, at);
+    }
+    match operate(
+        stack,
+        at as u32,
+        &tokens[at],
+        &tokens[at + 1],
+        &tokens[at + 2],
+    ) {
+        Ok(true) => Ok(at + 2),
+        Ok(false) => single(stack, stage, tokens, at),
+        Err(Refusal::Refused) => Err(Syntax::Stop { token: at as u32 }),
+        Err(Refusal::Memory) => Err(Syntax::Memory),
+    }
+}
+
+// Reads the token at a place where an expression may begin, or where it begins an operator between two tokens in parentheses
+// all five.
+#[inline(always)]
+fn begun(stack: &mut Stack, stage: &mut Stage, tokens: &[Token], at: usize) -> Result<usize, Syntax>
+    requires few { length tokens.now < 2 ^ 32 }
+    requires within { at < length tokens.now }
+    requires begins { stage_begins stage.old ≡ true }
+    requires holds { Holds stage.old stack.old.0 }
+    requires low { spec.depth stack.old.1 ≤ limit }
+    ensures advances { IfOk result (λ next. Advances (marks 0 tokens.now) at next (state_of stage.old stack.old.0, stack.old.1)
+        (state_of stage.new stack.new.0, stack.new.1)) }
+    ensures holds { OnOk result (Holds stage.new stack.new.0) }
+    ensures fails { IfErr result (λ fault. FailsAt fault (marks 0 tokens.now) at (state_of stage.old stack.old.0, stack.old.1)) }
+{
+    if tokens.len() - at <= 4 || DEEPEST <= stack.depth() + 1 {
+        return single(stack, stage, tokens, at);
+    }
+    match bracket(stack, tokens, at) {
+        Ok(true) => {
+            *stage = Stage::Whole;
+            Ok(at + 5)
+        }
+        Ok(false) => single(stack, stage, tokens, at),
+        Err(_) => Err(Syntax::Memory),
+    }
+}
+
+// Whether arguments begin at a token that looks so, and may be open where so much is.
+fn opens_call(look: Look, depth: usize) -> bool
+    ensures paren { result ≡ true → look ≡ looks.Sign signs.LeftParen }
+    ensures low { result ≡ true → depth < limit }
+{
+    matches!(look, Look::Sign(Sign::LeftParen)) && depth < DEEPEST
+}
+
+// Reads the token behind a word or path that begins an expression, and what is read with it.
+#[inline(always)]
+fn behind_word(
+    stack: &mut Stack,
+    stage: &mut Stage,
+    tokens: &[Token],
+    at: usize,
+    first: &Token,
+    look: Look,
+    second: &Token,
+) -> Result<usize, Syntax>
+    requires few { length tokens.now < 2 ^ 32 }
+    requires within { at + 1 < length tokens.now }
+    requires second { second.now ≡ get_or tokens.now (at + 1) second.now }
+    requires look { lexeme_of look second.now ≡ lexeme second.now }
+    requires none { stack.old.0 ≡ no_subtrees }
+    requires low { spec.depth stack.old.1 ≤ limit }
+    ensures advances { IfOk result (λ next. Advances (marks 0 tokens.now) (at + 1) next
+        (states.Word (mark at first.now).spot first.now.text, stack.old.1) (state_of stage.new stack.new.0, stack.new.1)) }
+    ensures holds { OnOk result (Holds stage.new stack.new.0) }
+    ensures fails { IfErr result (λ fault. FailsAt fault (marks 0 tokens.now) (at + 1)
+        (states.Word (mark at first.now).spot first.now.text, stack.old.1)) }
+{
+    if opens_call(look, stack.depth()) {
+        return match call(stack, stage, at as u32, first, tokens, at + 2) {
+            Ok(next) => Ok(next),
+            Err(_) => Err(Syntax::Memory),
+        };
+    }
+    if is_operator(look) {
+        return match hold_word(stack, stage, at as u32, first) {
+            Ok(()) => operated(stack, stage, tokens, at + 1),
+            Err(_) => Err(Syntax::Memory),
+        };
+    }
+    let made = word_on(stack, stage, at as u32, first, look, second);
+    moved(stack, made, at + 1)
+}
+
 // Reads the token at a place with the one behind it, or alone where they are no pair.
 #[inline(always)]
 fn ahead(stack: &mut Stack, stage: &mut Stage, tokens: &[Token], at: usize) -> Result<usize, Syntax>
@@ -121,8 +246,7 @@ fn ahead(stack: &mut Stack, stage: &mut Stage, tokens: &[Token], at: usize) -> R
         Err(_) => return Err(Syntax::Memory),
     }
     if is_word(first.kind) && begins(stage) {
-        let made = word_on(stack, stage, at as u32, first, look, second);
-        return moved(stack, made, at + 1);
+        return behind_word(stack, stage, tokens, at, first, look, second);
     }
     single(stack, stage, tokens, at)
 }
@@ -155,8 +279,7 @@ fn next_word(
         Err(Refusal::Memory) => return Err(Syntax::Memory),
     }
     let second = &tokens[at + 1];
-    let made = word_on(stack, stage, at as u32, first, look_of(second), second);
-    moved(stack, made, at + 1)
+    behind_word(stack, stage, tokens, at, first, look_of(second), second)
 }
 
 // Reads the token at a place, or two of them at once. Answers the place behind them.
@@ -181,6 +304,12 @@ fn advance(
             return next_word(stack, stage, tokens, at);
         }
         return ahead(stack, stage, tokens, at);
+    }
+    if let Stage::Whole = stage {
+        return operated(stack, stage, tokens, at);
+    }
+    if begins(stage) {
+        return begun(stack, stage, tokens, at);
     }
     single(stack, stage, tokens, at)
 }

@@ -222,6 +222,26 @@ impl Stack {
         Ok(())
     }
 
+    /// Holds a tree of one node behind what is held.
+    #[inline(always)]
+    pub fn hold_behind(&mut self, first: u32, raw: Raw) -> Result<(), AllocError>
+        ensures { OnOk result (self.new ≡ (joined self.old.0 (grow.leaf first raw), self.old.1)) }
+    {
+        self.nodes.push(raw)?;
+        self.hand.levels.join_one(self.alloc, first);
+        Ok(())
+    }
+
+    /// Holds a word with neither arguments nor a body behind what is held.
+    #[inline(always)]
+    #[tactic(auto, unfolding(crate::specs::Grow::item, crate::specs::Grow::node_over, crate::specs::Grow::merged))]
+    pub fn hold_name_behind(&mut self, spot: Spot, word: Text) -> Result<(), AllocError>
+        ensures { OnOk result (self.new ≡ (joined self.old.0 (grow.item spot word None None), self.old.1)) }
+    {
+        self.hold_behind(spot.token, named(spot, word))?;
+        Ok(())
+    }
+
     /// Opens a frame of this kind behind what is held, which becomes the first of its trees.
     #[inline(always)]
     pub fn open(&mut self, kind: FrameKind) -> Result<(), AllocError>
@@ -292,8 +312,7 @@ impl Stack {
         ensures { OnOk result (self.new ≡ (no_subtrees, added (grow.leaf first raw) self.old.1)) }
     {
         self.nodes.push(raw)?;
-        let one = Levels::of_one(self.alloc, first);
-        self.innermost.group.levels.join(self.alloc, one)?;
+        self.innermost.group.levels.join_one(self.alloc, first);
         self.hand.start = count(&self.nodes);
         Ok(())
     }

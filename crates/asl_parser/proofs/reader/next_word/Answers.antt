@@ -1,12 +1,13 @@
-use Rattle.std.proofs.Common.{◌≡◌, ℕ, suc, ◌+◌, true, Some, None, Err, refl, sym, ◌∙◌, subst, arith}
+use Rattle.std.proofs.Common.{◌≡◌, ◌+◌, true, Some, None, Err, refl, sym, ◌∙◌, subst, arith}
 use Rattle.asl_parser.specs.declared.frame.ParserState.TheVariants as st
 use Rattle.asl_parser.specs.declared.frame.Refusal.{Refusal}
 use Rattle.asl_parser.specs.Grow.{limit}
-use Rattle.asl_parser.specs.Machine.{Config, step}
-use Rattle.asl_parser.specs.Marks.{mark, is_word}
-use Rattle.asl_parser.specs.Stages.{BeginsNext, state_of, StepsTo}
+use Rattle.asl_parser.specs.Machine.{Config}
+use Rattle.asl_parser.specs.Marks.{mark, marks, is_word}
+use Rattle.asl_parser.specs.Stages.{BeginsNext, state_of}
+use Rattle.asl_parser.proofs.Calling.{advances_behind, fails_behind}
 use Rattle.asl_parser.proofs.Next.{word_steps}
-use Rattle.asl_parser.proofs.Onward.{comes_on, on_advances, on_fails}
+use Rattle.asl_parser.proofs.Onward.{comes_on}
 use Rattle.asl_parser.proofs.Walks.{length-marks, walk_refused}
 use Rattle.asl_parser.proofs.reader.next_word.Goals as goal
 
@@ -23,22 +24,18 @@ returns-in-Err-Refused-clause-fails c =
 
 pub returns-clause-advances : goal.returns-clause-advances
 returns-clause-advances c =
-    let a = c.args in let t = c.index-tokens-at.result in let u = c.index-tokens-at-2.result in let new = c.word_on-made.new in let p = (mark a.at t).spot in let next = c.in-Ok.ensures.next in
-    let before : Config = (state_of a.stage.now a.stack.now.0, a.stack.now.1) in let word : Config = (st.Word p t.text, c.end_expression.new.stack.1) in
+    let a = c.args in let t = c.index-tokens-at.result in let new = c.behind_word.new in let p = (mark a.at t).spot in let next = c.in-Ok.ensures.next in
+    let before : Config = (state_of a.stage.now a.stack.now.0, a.stack.now.1) in let word : Config = (st.Word p t.text, c.end_expression.new.stack.1) in let now : Config = (state_of new.stage new.stack.0, new.stack.1) in
     let is : is_word t.kind ≡ true = sym c.is_word.ensures ∙ c.if-not-is_word.false in
     let moved = word_steps t.kind t.number t.text p before.0 before.1 (Some word) is (λ path. next.2 p path t.text) in
     let comes = comes_on a.tokens.now a.at t before before word c.requires.within c.index-tokens-at.is refl c.requires.low moved next.1 in
-    let last : suc a.at ≡ a.at + 1 = omega arith in
-    let made = subst (λ (n : ℕ). StepsTo c.word_on-made.result new.stage new.stack (step (mark n u) word.0 word.1)) last c.word_on-made.ensures in
-    on_advances a.tokens.now a.at (a.at + 1) u c.word_on-made.result c.moved.result before word new.stage new.stack comes c.index-tokens-at-2.is made c.moved.ensures
+    advances_behind (marks 0 a.tokens.now) a.at (a.at + 1) before word now c.behind_word.result comes c.behind_word.ensures.advances
 
 pub returns-clause-fails : goal.returns-clause-fails
 returns-clause-fails c =
-    let a = c.args in let t = c.index-tokens-at.result in let u = c.index-tokens-at-2.result in let new = c.word_on-made.new in let p = (mark a.at t).spot in let next = c.in-Ok.ensures.next in
+    let a = c.args in let t = c.index-tokens-at.result in let p = (mark a.at t).spot in let next = c.in-Ok.ensures.next in
     let before : Config = (state_of a.stage.now a.stack.now.0, a.stack.now.1) in let word : Config = (st.Word p t.text, c.end_expression.new.stack.1) in
     let is : is_word t.kind ≡ true = sym c.is_word.ensures ∙ c.if-not-is_word.false in
     let moved = word_steps t.kind t.number t.text p before.0 before.1 (Some word) is (λ path. next.2 p path t.text) in
     let comes = comes_on a.tokens.now a.at t before before word c.requires.within c.index-tokens-at.is refl c.requires.low moved next.1 in
-    let last : suc a.at ≡ a.at + 1 = omega arith in
-    let made = subst (λ (n : ℕ). StepsTo c.word_on-made.result new.stage new.stack (step (mark n u) word.0 word.1)) last c.word_on-made.ensures in
-    on_fails a.tokens.now a.at (a.at + 1) u c.word_on-made.result c.moved.result before word new.stage new.stack comes c.index-tokens-at-2.is made c.moved.ensures
+    fails_behind (marks 0 a.tokens.now) a.at (a.at + 1) before word c.behind_word.result comes c.behind_word.ensures.fails

@@ -1,0 +1,133 @@
+//! An operator between two operands, which is read with its last operand where that is one token.
+ghost use Rattle.std.specs.Prelude.{◌≡◌, ◌+◌, ◌^◌, ◌<◌, length, IfOk, OnOk};
+ghost use Rattle.asl_parser.specs.Grow.{limit, no_subtrees};
+ghost use Rattle.asl_parser.specs.Machine.{depth};
+ghost use Rattle.asl_parser.specs.Marks.{mark, marks, lexeme};
+ghost use Rattle.asl_parser.specs.Opens.{IsOne};
+ghost use Rattle.asl_parser.specs.Operating as spec;
+ghost use Rattle.asl_parser.specs.Operating.{AppliesNode, MayOperate, MayBracket};
+ghost use Rattle.asl_parser.specs.Pairs.{plain};
+
+use crate::frame::Refusal;
+use crate::machine::settle;
+use crate::mark::{Look, Spot, look_of};
+use crate::plain::{hold_plain, is_plain};
+use crate::raw::Infix;
+use crate::sign::{Sign, strength_of};
+use crate::stack::Stack;
+use asl_lexer::token::Token;
+use std::alloc::AllocError;
+
+// Whether operators of this level are applied to the operand before a token.
+#[tactic(auto, unfolding(crate::specs::Operating::applies))]
+fn applies(level: u8, next: &Token) -> bool
+    ensures { result ≡ spec.applies level (lexeme next.now) }
+{
+    match look_of(next) {
+        Look::Word | Look::Path => true,
+        Look::Sign(Sign::RightParen) => true,
+        Look::Sign(Sign::RightBrace) => true,
+        Look::Sign(Sign::Comma) => true,
+        Look::Sign(Sign::Binary(op)) => match strength_of(op) {
+            Some(strength) => level <= strength.pull,
+            None => false,
+        },
+        _ => false,
+    }
+}
+
+// Holds an operator over what is held and a token that is an expression by itself.
+fn apply_plain(
+    stack: &mut Stack,
+    spot: Spot,
+    op: Infix,
+    number: u32,
+    operand: &Token,
+) -> Result<(), AllocError>
+    requires one { IsOne stack.old.0 }
+    ensures { OnOk result (AppliesNode (plain (mark number operand.now)) spot op stack.old stack.new) }
+{
+    let first = stack.leading_held(spot.token);
+    // It is one: `operate` asks before it changes anything.
+    if !hold_plain(stack, number, operand)? {
+        return Err(AllocError);
+    }
+    stack.apply(first, spot, op)?;
+    Ok(())
+}
+
+/// Reads an operator behind the expression that is held, with the token behind it where that is its last operand and the operator
+/// is applied to it before the one that stands next. Answers whether they were read.
+#[inline(never)]
+pub fn operate(
+    stack: &mut Stack,
+    number: u32,
+    sign: &Token,
+    operand: &Token,
+    next: &Token,
+) -> Result<bool, Refusal>
+    requires number { number + 1 < 2 ^ 32 }
+    requires one { IsOne stack.old.0 }
+    requires low { depth stack.old.1 < limit }
+    ensures { MayOperate result (mark number sign.now) (mark (number + 1) operand.now) (mark (number + 2) next.now)
+        stack.old stack.new }
+{
+    let Look::Sign(Sign::Binary(op)) = look_of(sign) else {
+        return Ok(false);
+    };
+    let Some(strength) = strength_of(op) else {
+        return Ok(false);
+    };
+    if !is_plain(operand.kind) || !applies(strength.level, next) {
+        return Ok(false);
+    }
+    let spot = Spot {
+        token: number,
+        place: sign.place,
+    };
+    settle(stack, strength.pull)?;
+    if stack.room() < strength.level {
+        return Err(Refusal::Refused);
+    }
+    apply_plain(stack, spot, op, number + 1, operand)?;
+    Ok(true)
+}
+
+/// Reads an expression in parentheses that is an operator between two tokens, from this place on. Answers whether it was read.
+#[inline(never)]
+pub fn bracket(stack: &mut Stack, tokens: &[Token], at: usize) -> Result<bool, AllocError>
+    requires few { length tokens.now < 2 ^ 32 }
+    requires within { at + 4 < length tokens.now }
+    requires none { stack.old.0 ≡ no_subtrees }
+    requires low { depth stack.old.1 + 1 < limit }
+    ensures { IfOk result (λ is_read. MayBracket is_read (marks 0 tokens.now) at stack.old stack.new) }
+{
+    let Look::Sign(Sign::LeftParen) = look_of(&tokens[at]) else {
+        return Ok(false);
+    };
+    let Look::Sign(Sign::RightParen) = look_of(&tokens[at + 4]) else {
+        return Ok(false);
+    };
+    let sign = &tokens[at + 2];
+    let Look::Sign(Sign::Binary(op)) = look_of(sign) else {
+        return Ok(false);
+    };
+    let Some(_strength) = strength_of(op) else {
+        return Ok(false);
+    };
+    let left = &tokens[at + 1];
+    let right = &tokens[at + 3];
+    if stack.room() < 1 || !is_plain(left.kind) || !is_plain(right.kind) {
+        return Ok(false);
+    }
+    // They are expressions: that was asked.
+    if !hold_plain(stack, at as u32 + 1, left)? {
+        return Err(AllocError);
+    }
+    let spot = Spot {
+        token: at as u32 + 2,
+        place: sign.place,
+    };
+    apply_plain(stack, spot, op, at as u32 + 3, right)?;
+    Ok(true)
+}

@@ -1,0 +1,56 @@
+//! Tokens that are expressions by themselves.
+ghost use Rattle.std.specs.Prelude.{◌≡◌, None, IfOk, OnOk, is_some};
+ghost use Rattle.asl_parser.specs.Grow.{joined, item};
+ghost use Rattle.asl_parser.specs.Marks.{mark};
+ghost use Rattle.asl_parser.specs.Pairs.{plain, HoldsNode};
+
+use crate::mark::Spot;
+use crate::raw::Raw;
+use crate::stack::Stack;
+use asl_lexer::token::{Token, TokenKind};
+use std::alloc::AllocError;
+
+fn hold_word(stack: &mut Stack, number: u32, token: &Token) -> Result<(), AllocError>
+    ensures { OnOk result (stack.new ≡ (joined stack.old.0 (item (mark number token.now).spot token.now.text None None), stack.old.1)) }
+{
+    let spot = Spot {
+        token: number,
+        place: token.place,
+    };
+    let word = stack.copy(&token.text)?;
+    stack.hold_name_behind(spot, word)?;
+    Ok(())
+}
+
+/// Holds the tree of a token that is an expression by itself behind what is held. Answers whether it is one.
+pub fn hold_plain(stack: &mut Stack, number: u32, token: &Token) -> Result<bool, AllocError>
+    ensures { IfOk result (λ is_plain. HoldsNode is_plain (plain (mark number token.now)) stack.old stack.new) }
+{
+    let place = token.place;
+    match token.kind {
+        TokenKind::Word => {
+            hold_word(stack, number, token)?;
+            Ok(true)
+        }
+        TokenKind::Path => {
+            hold_word(stack, number, token)?;
+            Ok(true)
+        }
+        TokenKind::Number => {
+            let value = token.number;
+            stack.hold_behind(number, Raw::Number { place, value })?;
+            Ok(true)
+        }
+        TokenKind::Text => {
+            let text = stack.copy(&token.text)?;
+            stack.hold_behind(number, Raw::Text { place, text })?;
+            Ok(true)
+        }
+        TokenKind::Symbol => Ok(false),
+    }
+}
+
+/// Whether a token of this kind is an expression by itself.
+pub fn is_plain(kind: TokenKind) -> bool {
+    !matches!(kind, TokenKind::Symbol)
+}
