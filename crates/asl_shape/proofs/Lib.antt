@@ -6,6 +6,8 @@ pub mod Leaves
 pub mod Braces
 pub mod Types
 pub mod Settled
+pub mod Last
+pub mod Outcomes
 pub mod TextMacros
 pub mod FieldWords
 pub mod Descriptors

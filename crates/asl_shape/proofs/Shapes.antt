@@ -1,6 +1,7 @@
 -- A part of a source, one layer at a time.
-use Rattle.std.proofs.Common.{◌≡◌, ℕ, zero, suc, ◌+◌, ◌*◌, ◌<◌, slice_get, ◌≤◌, nat_eq, length, get_or, drop, drop-cons, add-one, arith, List, [], ◌∷◌, ◌++◌, append_assoc, append-nil, refl, ap, ◌∙◌, sym, subst, Vec, Global, Option, Some, None, Bool, true, false, not, ◌&&◌, if◌then◌else◌, length-append}
+use Rattle.std.proofs.Common.{◌≡◌, OnOk, Result, ℕ, zero, suc, ◌+◌, ◌*◌, ◌<◌, slice_get, ◌≤◌, nat_eq, length, get_or, drop, drop-cons, add-one, arith, List, [], ◌∷◌, ◌++◌, append_assoc, append-nil, refl, ap, ◌∙◌, sym, subst, Vec, Global, Option, Some, None, Bool, true, false, not, ◌&&◌, if◌then◌else◌, length-append}
 use Rattle.std.proofs.lemmas.List.{drop_all}
+use Rattle.std.proofs.lemmas.Result.{on_ok_weaker}
 use Rattle.iasl_messages.specs.declared.place.Place.{Place}
 use Rattle.iasl_messages.specs.declared.message.Message.{Message}
 use Rattle.acpi_values.specs.declared.width.Width.{Width}
@@ -13,7 +14,7 @@ use Rattle.asl_tree.specs.declared.term.Special.{Special}
 use Rattle.asl_tree.specs.declared.term.Node.{Node}
 use Rattle.asl_words.specs.Paths.{path_of}
 use Rattle.asl_shape.specs.declared.around.Around.{Around}
-use Rattle.asl_shape.specs.Plans.{plans_of, Plan, omitted, Plans, no_plans, plan, join}
+use Rattle.asl_shape.specs.Plans.{plans_of, Plan, omitted, Plans, no_plans, plan, join, last_plan, with_last}
 use Rattle.asl_shape.proofs.Plans.{plan_form, plan_call, no_plans_are}
 use Rattle.asl_words.specs.declared.operator.Known.{Known}
 use Rattle.asl_words.specs.declared.operator.Parameter.{Parameter}
@@ -30,7 +31,7 @@ use Rattle.asl_words.specs.Operators.{parameters_of, body_of, parameters_as, bod
 use Rattle.asl_shape.specs.Shapes
 use Rattle.asl_shape.specs.Symbols.{symbol_of}
 use Rattle.asl_shape.specs.Shapes.{Shaped, fine, refused, template_shape, descriptor_shape, is_given, inside_of, has_arguments, after, checked, evaluated, number_shape, text_shape, listed_shape, form_shape, symbol_shape, read_shape, item_shape}
-use Rattle.asl_shape.specs.Shapes.{path_shape, call_shape, known_plan, within, place_of, joined, missing, left_out, list_shape, skipped, is_separator, nowhere, bare, call_args, arguments, contents, meaning_in, element_shape, macro_shape, begin}
+use Rattle.asl_shape.specs.Shapes.{one_plan, path_shape, call_shape, known_plan, within, place_of, joined, missing, left_out, list_shape, skipped, is_separator, nowhere, bare, call_args, arguments, contents, meaning_in, element_shape, macro_shape, begin}
 use Rattle.asl_words.specs.Meanings.{item_fault, meaning_of, reading_of, slot_as, unfit}
 use Rattle.asl_words.specs.Resources.{descriptor_parameters, descriptor_body}
 use Rattle.resource_layout.specs.declared.descriptor.Descriptor.{Descriptor}
@@ -38,6 +39,8 @@ use Rattle.asl_shape.specs.AtRaw.{has_arguments_at, template_at, descriptor_at, 
 use Rattle.asl_shape.specs.AtRaw.{terms_at, member_at, argument_at, form_at, read_at, is_some, one_at, left_at, is_listed_at, byte_slot_at, item_at, meaning_at, element_at, macro_at, is_field_list_at, elements_at, cases_at, default_after_at}
 use Rattle.asl_parser.proofs.Views.{written_number, written_text, written_item, written_apply, written_list, written_comma, written_semicolon, written_empty}
 use Rattle.asl_shape.proofs.Terms.{term_rules, omitted_term, nothing_more}
+use Rattle.asl_shape.proofs.Leaves.{place_rules}
+use Rattle.asl_shape.proofs.Last.{last_join, with_join}
 use Rattle.asl_shape.proofs.Braces.{given_some, from_item}
 use Rattle.asl_shape.proofs.ItemLaws.{inside_written}
 
@@ -60,6 +63,30 @@ checked_faulty width s place x h = by_faults x.faults h
     by_faults : (ms : List Message) → (ms ≡ [] → ⊥) → after ms x (evaluated width s place x.made) ≡ x
     by_faults [] h = absurd (h refl)
     by_faults (m ∷ ms) h = refl
+
+-- where a slot asks for no more
+pub checked_plain : (width : Width) (s : Slot) (place : Place) (x : Shaped Plan) → evaluated width s place x.made ≡ fine x.made → checked width s place x ≡ x
+checked_plain width s place x e = by_faults x.faults refl
+  where
+    by_faults : (ms : List Message) → x.faults ≡ ms → after ms x (evaluated width s place x.made) ≡ x
+    by_faults [] n = e ∙ sym (ap (λ ms. record { faults = ms; made = x.made }) n)
+    by_faults (m ∷ ms) n = refl
+
+-- the last of some plans is evaluated where it is read with no error
+
+pub clean_faults : (width : Width) (s : Slot) (at place : Place) (x : Shaped Plan) (before mid : Plans) (old read all : List Message) → x.faults ≡ [] → mid ≡ join before (one_plan place x.made) → read ≡ old ++ x.faults
+    → all ≡ read ++ (evaluated width s at (last_plan mid)).faults → all ≡ old ++ (checked width s at x).faults
+clean_faults width s at place x before mid old read all n m r e =
+    let last : last_plan mid ≡ x.made = ap last_plan m ∙ last_join before place x.made in
+    e ∙ ap (λ ms. ms ++ (evaluated width s at (last_plan mid)).faults) (r ∙ ap (λ ms. old ++ ms) n ∙ append-nil old)
+    ∙ ap (λ p. old ++ (evaluated width s at p).faults) last ∙ ap (λ y. old ++ y.faults) (sym (checked_clean width s at x n))
+
+pub clean_made : (width : Width) (s : Slot) (at place : Place) (x : Shaped Plan) (before mid all : Plans) → x.faults ≡ [] → mid ≡ join before (one_plan place x.made) → all ≡ with_last (evaluated width s at (last_plan mid)).made mid
+    → all ≡ join before (one_plan place (checked width s at x).made)
+clean_made width s at place x before mid all n m e =
+    let last : last_plan mid ≡ x.made = ap last_plan m ∙ last_join before place x.made in
+    e ∙ ap (λ p. with_last (evaluated width s at p).made mid) last ∙ ap (with_last (evaluated width s at x.made).made) m
+    ∙ with_join (evaluated width s at x.made).made before place x.made ∙ ap (λ y. join before (one_plan place y.made)) (sym (checked_clean width s at x n))
 
 -- ---- one layer
 
@@ -104,7 +131,13 @@ bare_item s inside place w args body =
     ∙ ap (λ ws. item_shape place (item_fault s inside.method (meaning_of w (is_some body)) (has_arguments (meaning_of w (is_some body)) ws) (is_some body)) (read_shape s place w (reading_of s (meaning_of w (is_some body)) (is_given (written_in args))) (call_args inside (written_in args)) element expanded template described form)) (inside_written args)
     ∙ ap (λ b. item_shape place (item_fault s inside.method (meaning_of w (is_some body)) (has_arguments (meaning_of w (is_some body)) (writtens (inside_at args))) (is_some body)) (read_shape s place w (reading_of s (meaning_of w (is_some body)) b) (call_args inside (written_in args)) element expanded template described form)) (given_some args)
 
-pub ruleset bare_rules = (bare_number, bare_text, bare_apply, bare_list, bare_comma, bare_semicolon, bare_empty, bare_item, nothing_more, omitted_term)
+-- a node whose place and term are known
+pub read_there : {T E : Type 0} (result : Result T E) (s : Slot) (inside : Around) (outer place : Place) (r : Raw) (x : Shaped Plan) (before all : Plans)
+    → bare_at s inside r ≡ x → place_at outer r ≡ place → OnOk result (all ≡ join before (one_plan place x.made)) → OnOk result (all ≡ join before (one_at outer r (bare_at s inside r).made))
+read_there result s inside outer place r x before all e f h =
+    on_ok_weaker result (λ (k : all ≡ join before (one_plan place x.made)). k ∙ ap (λ q. join before (one_plan q x.made)) (sym f) ∙ ap (λ y. join before (one_plan (place_at outer r) y.made)) (sym e)) h
+
+pub ruleset bare_rules = (bare_number, bare_text, bare_apply, bare_list, bare_comma, bare_semicolon, bare_empty, nothing_more, omitted_term, place_rules)
 
 -- ---- plans in order
 
@@ -534,7 +567,7 @@ argument_over qs place inside raws i le = ap (λ xs. arguments_in_at xs place in
 
 pub ruleset argument_all = (argument_faults, argument_made, argument_over, nothing_more, nothing_behind)
 
-pub item_smaller : (r : Raw) (place : Place) (w : List ℕ) (args body : Option (List Raw)) → r ≡ raw.Item place w args body → 16 * (size_in_at args + size_in_at body) + 10 < 16 * size_at r + 1
+pub item_smaller : (r : Raw) (place : Place) (w : List ℕ) (args body : Option (List Raw)) → r ≡ raw.Item place w args body → 16 * (size_in_at args + size_in_at body) + 10 < 16 * size_at r
 item_smaller r place w args body e = let h : size_at r ≡ suc (size_in_at args + size_in_at body) = ap size_at e ∙ size_item place w args body in omega (arith, h)
 
 pub size_more : (r : Raw) (rs : List Raw) → sizes_at (r ∷ rs) ≡ size_at r + sizes_at rs

@@ -68,6 +68,35 @@ abbrev pub join : Plans → Plans → Plans
 join no_plans qs = qs
 join (plan place p ps) qs = plan place p (join ps qs)
 
+-- the last of a plan and those behind it
+abbrev pub last_behind : Plan → Plans → Plan
+last_behind p no_plans = p
+last_behind p (plan place q qs) = last_behind q qs
+
+-- the last plan; what is left out where there is none
+abbrev pub last_plan : Plans → Plan
+last_plan ps = last_behind omitted ps
+
+-- a plan and those behind it, without the last of them
+abbrev pub before_end : Place → Plan → Plans → Plans
+before_end place p no_plans = no_plans
+before_end place p (plan at q qs) = plan place p (before_end at q qs)
+
+-- all but the last
+abbrev pub before_last : Plans → Plans
+before_last no_plans = no_plans
+before_last (plan place p ps) = before_end place p ps
+
+-- a plan and those behind it, with this one in place of the last of them
+abbrev pub with_end : Plan → Place → Plan → Plans → Plans
+with_end last place p no_plans = plan place last no_plans
+with_end last place p (plan at q qs) = plan place p (with_end last at q qs)
+
+-- this plan in place of the last
+abbrev pub with_last : Plan → Plans → Plans
+with_last last no_plans = no_plans
+with_last last (plan place p ps) = with_end last place p ps
+
 abbrev pub number_of : Plan → ℕ
 number_of (an_integer number) = number
 number_of _ = 0

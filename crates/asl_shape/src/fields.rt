@@ -1,5 +1,5 @@
 //! The list of a field (ACPI Specification 6.4, 19.6.48).
-ghost use Rattle.std.specs.Prelude.{◌≡◌, OnOk, IfOk, drop};
+ghost use Rattle.std.specs.Prelude.{◌≡◌, ◌++◌, OnOk, IfOk, drop};
 ghost use Rattle.asl_shape.specs.Shapes as spec;
 ghost use Rattle.asl_shape.specs.AtRaw as at;
 ghost use Rattle.asl_shape.specs.Plans.{plan_of, plans_of, join};
@@ -8,15 +8,16 @@ ghost use Rattle.asl_words.specs.Meanings.{slot_as};
 use crate::item::{inside_of, is_given};
 use crate::leaf::place_in;
 use crate::lists::{is_comma, is_separator};
-use crate::settle::push;
-use crate::work::NOWHERE;
+use crate::nodes::push;
+use crate::work::{NOWHERE, Work, tell};
 use asl_parser::Raw;
 use asl_tree::path::{NameSeg, Path};
 use asl_tree::term::{Node, Term};
 use asl_words::meaning::{Meaning, is_connection, is_whole, meaning_of, slot_as};
 use asl_words::operator::Slot;
+use iasl_messages::number::WRONG_ARGUMENT_FORM;
 use iasl_messages::place::Place;
-use std::alloc::AllocError;
+use std::alloc::{AllocError, Global};
 
 /// The name of a unit, where it stands.
 #[derive(Clone, Copy)]
@@ -216,6 +217,25 @@ pub fn element_place(raw: &Raw) -> Place
         inner_place(place_in(NOWHERE, raw), raw)
     } else {
         place_in(NOWHERE, raw)
+    }
+}
+
+/// Tells of a unit's name that has no comma behind it.
+#[tactic(auto, using(crate::proofs::FieldSteps::comma_rules))]
+pub fn miss_comma(
+    alloc: Global,
+    work: &mut Work,
+    unit: Option<UnitName>,
+    raw: &Raw,
+) -> Result<(), AllocError>
+    ensures { OnOk result (work.new.faults.items ≡ work.old.faults.items ++ (at.comma_at unit raw.now).faults) }
+{
+    if is_separator(raw) {
+        return Ok(());
+    }
+    match unit {
+        Some(unit) => Ok(tell(alloc, work, WRONG_ARGUMENT_FORM, unit.place)?),
+        None => Ok(()),
     }
 }
 

@@ -3,17 +3,18 @@ ghost use Rattle.std.specs.Prelude.{◌≡◌, ◌++◌, ◌∷◌, [], OnOk, If
 ghost use Rattle.asl_shape.specs.Shapes as spec;
 ghost use Rattle.asl_words.specs.Paths;
 ghost use Rattle.asl_shape.specs.AtRaw as at;
-ghost use Rattle.asl_shape.specs.Plans.{plan_of};
+ghost use Rattle.asl_shape.specs.Plans.{plan_of, plans_of, join};
 
 use crate::item::is_given;
 use crate::macros::macro_text;
+use crate::nodes::{add_refused, push};
 use crate::work::{Work, refuse};
 use acpi_values::integer::wrap;
 use acpi_values::width::Width;
 use asl_parser::Raw;
-use asl_tree::term::Term;
+use asl_tree::term::{Node, Term};
 use asl_words::meaning::{Meaning, meaning_of, takes_expression, takes_known, unfit};
-use asl_words::operator::{Known, Slot, StringForm, WordKind};
+use asl_words::operator::{Known, Slot, StringForm, TextMacro, WordKind};
 use asl_words::paths::path_of;
 use asl_words::texts::{has_form, is_text};
 use iasl_messages::number::{
@@ -40,35 +41,46 @@ pub fn place_in(place: Place, raw: &Raw) -> Place
     }
 }
 
+/// A number, where it is read so.
 #[tactic(auto, using(crate::proofs::Terms::nothing_more), unfolding(crate::specs::Plans::plan_of))]
-pub fn number(
+pub fn add_number(
     alloc: Global,
     work: &mut Work,
-    slot: Slot,
-    place: Place,
+    nodes: &mut Vec<Node>,
+    slot: &Slot,
+    place: &Place,
     value: u64,
-) -> Result<Term, AllocError>
-    ensures faults { OnOk result (work.new.faults.items ≡ work.old.faults.items ++ (spec.number_shape slot place value).faults) }
-    ensures made { IfOk result (λ term. plan_of term ≡ (spec.number_shape slot place value).made) }
+) -> Result<(), AllocError>
+    ensures faults { OnOk result (work.new.faults.items ≡ work.old.faults.items ++ (spec.number_shape slot.now place.now value).faults) }
+    ensures made { OnOk result
+        (plans_of nodes.new.items ≡ join (plans_of nodes.old.items)
+        (spec.one_plan place.now (spec.number_shape slot.now place.now value).made)) }
 {
-    match slot {
-        Slot::Term { .. } => refuse(alloc, work, NOT_ALLOWED_HERE, place),
-        Slot::Effect => refuse(alloc, work, WRONG_ARGUMENT_FORM, place),
+    match *slot {
+        Slot::Term { .. } => add_refused(alloc, work, nodes, NOT_ALLOWED_HERE, *place),
+        Slot::Effect => add_refused(alloc, work, nodes, WRONG_ARGUMENT_FORM, *place),
         _ => {
-            if takes_expression(slot) {
-                Ok(Term::Integer(wrap(Width::W64, value)))
+            if takes_expression(*slot) {
+                push(nodes, *place, Term::Integer(wrap(Width::W64, value)))
             } else {
-                refuse(alloc, work, unfit(slot), place)
+                add_refused(alloc, work, nodes, unfit(*slot), *place)
             }
         }
     }
 }
 
 #[tactic(auto, unfolding(crate::specs::Plans::plan_of))]
-fn copied(alloc: Global, bytes: &Text) -> Result<Term, AllocError>
-    ensures { IfOk result (λ term. plan_of term ≡ spec.text_plan bytes.now) }
+fn add_copy(
+    alloc: Global,
+    nodes: &mut Vec<Node>,
+    place: &Place,
+    bytes: &Text,
+) -> Result<(), AllocError>
+    ensures { OnOk result (plans_of nodes.new.items ≡ join (plans_of nodes.old.items)
+        (spec.one_plan place.now (spec.text_plan bytes.now))) }
 {
-    Ok(Term::Text(Text::from_bytes(alloc, bytes.as_bytes())?))
+    let copy = Text::from_bytes(alloc, bytes.as_bytes())?;
+    push(nodes, *place, Term::Text(copy))
 }
 
 // The number of the error that is told of a string that is not what it has to be.
@@ -82,54 +94,90 @@ fn unformed(form: StringForm) -> u16
 }
 
 #[tactic(auto, using(crate::proofs::Terms::nothing_more))]
-fn string(
+fn add_string(
     alloc: Global,
     work: &mut Work,
+    nodes: &mut Vec<Node>,
     form: StringForm,
-    place: Place,
+    place: &Place,
     bytes: &Text,
-) -> Result<Term, AllocError>
-    ensures faults { OnOk result (work.new.faults.items ≡ work.old.faults.items ++ (spec.string_shape form place bytes.now).faults) }
-    ensures made { IfOk result (λ term. plan_of term ≡ (spec.string_shape form place bytes.now).made) }
+) -> Result<(), AllocError>
+    ensures faults { OnOk result (work.new.faults.items ≡ work.old.faults.items ++ (spec.string_shape form place.now bytes.now).faults) }
+    ensures made { OnOk result
+        (plans_of nodes.new.items ≡ join (plans_of nodes.old.items)
+        (spec.one_plan place.now (spec.string_shape form place.now bytes.now).made)) }
 {
     if has_form(form, bytes.as_bytes()) && is_text(bytes.as_bytes()) {
-        copied(alloc, bytes)
+        add_copy(alloc, nodes, place, bytes)
     } else {
-        refuse(alloc, work, unformed(form), place)
+        add_refused(alloc, work, nodes, unformed(form), *place)
     }
 }
 
-pub fn text(
+// The string of a macro.
+#[inline(never)]
+fn add_macro_text(
     alloc: Global,
     work: &mut Work,
-    slot: Slot,
-    place: Place,
+    nodes: &mut Vec<Node>,
+    text_macro: TextMacro,
+    place: &Place,
     bytes: &Text,
-) -> Result<Term, AllocError>
-    ensures faults { OnOk result (work.new.faults.items ≡ work.old.faults.items ++ (spec.text_shape slot place bytes.now).faults) }
-    ensures made { IfOk result (λ term. plan_of term ≡ (spec.text_shape slot place bytes.now).made) }
+) -> Result<(), AllocError>
+    ensures faults { OnOk result
+        (work.new.faults.items ≡ work.old.faults.items ++ (spec.macro_text text_macro place.now bytes.now).faults) }
+    ensures made { OnOk result
+        (plans_of nodes.new.items ≡ join (plans_of nodes.old.items)
+        (spec.one_plan place.now (spec.macro_text text_macro place.now bytes.now).made)) }
 {
-    match slot {
-        Slot::Expression => string(alloc, work, StringForm::Any, place, bytes),
-        Slot::Element => string(alloc, work, StringForm::Any, place, bytes),
-        Slot::CaseValue => string(alloc, work, StringForm::Any, place, bytes),
-        Slot::CaseMember => string(alloc, work, StringForm::Any, place, bytes),
-        Slot::String(form) => string(alloc, work, form, place, bytes),
-        Slot::MacroText(text_macro) => macro_text(alloc, work, text_macro, place, bytes),
-        Slot::Term { .. } => refuse(alloc, work, NOT_ALLOWED_HERE, place),
-        _ => refuse(alloc, work, unfit(slot), place),
+    let term = macro_text(alloc, work, text_macro, *place, bytes)?;
+    push(nodes, *place, term)
+}
+
+/// A string, where it is read so.
+pub fn add_text(
+    alloc: Global,
+    work: &mut Work,
+    nodes: &mut Vec<Node>,
+    slot: &Slot,
+    place: &Place,
+    bytes: &Text,
+) -> Result<(), AllocError>
+    ensures faults { OnOk result (work.new.faults.items ≡ work.old.faults.items ++ (spec.text_shape slot.now place.now bytes.now).faults) }
+    ensures made { OnOk result
+        (plans_of nodes.new.items ≡ join (plans_of nodes.old.items)
+        (spec.one_plan place.now (spec.text_shape slot.now place.now bytes.now).made)) }
+{
+    match *slot {
+        Slot::Expression => add_string(alloc, work, nodes, StringForm::Any, place, bytes),
+        Slot::Element => add_string(alloc, work, nodes, StringForm::Any, place, bytes),
+        Slot::CaseValue => add_string(alloc, work, nodes, StringForm::Any, place, bytes),
+        Slot::CaseMember => add_string(alloc, work, nodes, StringForm::Any, place, bytes),
+        Slot::String(form) => add_string(alloc, work, nodes, form, place, bytes),
+        Slot::MacroText(text_macro) => add_macro_text(alloc, work, nodes, text_macro, place, bytes),
+        Slot::Term { .. } => add_refused(alloc, work, nodes, NOT_ALLOWED_HERE, *place),
+        _ => add_refused(alloc, work, nodes, unfit(*slot), *place),
     }
 }
 
+/// A name without arguments.
 #[tactic(auto, using(crate::proofs::Terms::nothing_more), unfolding(crate::specs::Plans::plan_of))]
-pub fn path(alloc: Global, work: &mut Work, place: Place, text: &[u8]) -> Result<Term, AllocError>
+pub fn add_path(
+    alloc: Global,
+    work: &mut Work,
+    nodes: &mut Vec<Node>,
+    place: &Place,
+    text: &[u8],
+) -> Result<(), AllocError>
     ensures faults { OnOk result
-        (work.new.faults.items ≡ work.old.faults.items ++ (spec.path_shape place (Paths.path_of text.now)).faults) }
-    ensures made { IfOk result (λ term. plan_of term ≡ (spec.path_shape place (Paths.path_of text.now)).made) }
+        (work.new.faults.items ≡ work.old.faults.items ++ (spec.path_shape place.now (Paths.path_of text.now)).faults) }
+    ensures made { OnOk result
+        (plans_of nodes.new.items ≡ join (plans_of nodes.old.items)
+        (spec.one_plan place.now (spec.path_shape place.now (Paths.path_of text.now)).made)) }
 {
     match path_of(alloc, text)? {
-        Some(path) => Ok(Term::Name(path)),
-        None => refuse(alloc, work, VALUE_OUT_OF_RANGE, place),
+        Some(path) => push(nodes, *place, Term::Name(path)),
+        None => add_refused(alloc, work, nodes, VALUE_OUT_OF_RANGE, *place),
     }
 }
 
@@ -267,9 +315,9 @@ fn most_types(slot: Slot) -> Option<u64>
     }
 }
 
-/// A list as an argument.
+// A list as an argument.
 #[tactic(auto, using(crate::proofs::Types::listed_rules))]
-pub fn listed(
+fn listed(
     alloc: Global,
     work: &mut Work,
     slot: Slot,
@@ -283,4 +331,23 @@ pub fn listed(
         Some(most) => types(alloc, work, most, place, raws),
         None => refuse(alloc, work, unfit(slot), place),
     }
+}
+
+/// A list, where it is read so.
+#[inline(never)]
+pub fn add_list(
+    alloc: Global,
+    work: &mut Work,
+    nodes: &mut Vec<Node>,
+    slot: &Slot,
+    place: &Place,
+    raws: &[Raw],
+) -> Result<(), AllocError>
+    ensures faults { OnOk result (work.new.faults.items ≡ work.old.faults.items ++ (at.listed_at slot.now place.now raws.now).faults) }
+    ensures made { OnOk result
+        (plans_of nodes.new.items ≡ join (plans_of nodes.old.items)
+        (spec.one_plan place.now (at.listed_at slot.now place.now raws.now).made)) }
+{
+    let term = listed(alloc, work, *slot, *place, raws)?;
+    push(nodes, *place, term)
 }

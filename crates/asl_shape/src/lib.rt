@@ -9,6 +9,7 @@ mod item;
 mod leaf;
 mod lists;
 mod macros;
+mod nodes;
 mod resources;
 mod settle;
 mod symbol;

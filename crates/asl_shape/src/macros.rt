@@ -4,7 +4,7 @@ ghost use Rattle.asl_shape.specs.Shapes as spec;
 ghost use Rattle.asl_shape.specs.Plans.{plan_of, plans_of, plan_at};
 ghost use Rattle.resource_macros.specs.Identifiers.{eisaid_of, uuid_of};
 
-use crate::settle::push;
+use crate::nodes::push;
 use crate::work::{Work, refuse};
 use asl_tree::term::{NamedDescriptor, Node, Op, Special, Term, Word};
 use asl_words::operator::TextMacro;

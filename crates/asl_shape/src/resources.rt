@@ -30,15 +30,34 @@ fn number_term(giver: Giver, number: u64) -> node::Term
     }
 }
 
-// What an argument gives.
-#[tactic(auto, unfolding(crate::specs::Plans::plan_of))]
-fn argument_term(alloc: Global, giver: Giver, term: &Term) -> Result<node::Term, AllocError>
-    ensures { IfOk result (λ made. made ≡ table.argument_term giver (plan_of term.now)) }
+// Adds a node. There is room for it first, so that it is made where it stays.
+#[inline(always)]
+fn push(nodes: &mut Vec<node::Node>, place: Place, term: node::Term) -> Result<(), AllocError>
+    ensures { OnOk result (nodes.new.items ≡ nodes.old.items ++ table.node place term ∷ []) }
 {
-    match term {
-        Term::Integer(number) => Ok(number_term(giver, *number)),
-        Term::Text(bytes) => Ok(node::Term::Text(Text::from_bytes(alloc, bytes.as_bytes())?)),
-        _ => Ok(node::Term::Omitted),
+    nodes.reserve(1)?;
+    nodes.push_reserved(node::Node { place, term });
+    Ok(())
+}
+
+// Adds what an argument gives.
+#[tactic(auto, unfolding(crate::specs::Plans::plan_of))]
+fn add_argument(
+    alloc: Global,
+    nodes: &mut Vec<node::Node>,
+    giver: Giver,
+    arg: &Node,
+) -> Result<(), AllocError>
+    ensures { OnOk result
+        (nodes.new.items ≡ nodes.old.items ++ table.node arg.now.place (table.argument_term giver (plan_of arg.now.term)) ∷ []) }
+{
+    match &arg.term {
+        Term::Integer(number) => push(nodes, arg.place, number_term(giver, *number)),
+        Term::Text(bytes) => {
+            let copy = Text::from_bytes(alloc, bytes.as_bytes())?;
+            push(nodes, arg.place, node::Term::Text(copy))
+        }
+        _ => push(nodes, arg.place, node::Term::Omitted),
     }
 }
 
@@ -58,10 +77,7 @@ fn add_arguments(
     let Some((arg, other_args)) = parts(args) else {
         return Ok(());
     };
-    nodes.push(node::Node {
-        place: arg.place,
-        term: argument_term(alloc, field.giver, &arg.term)?,
-    })?;
+    add_argument(alloc, nodes, field.giver, arg)?;
     Ok(add_arguments(alloc, nodes, other_fields, other_args)?)
 }
 
@@ -236,7 +252,7 @@ pub fn describe(
         → IsResource (row_of descriptor) (table.descriptor_arguments descriptor (plans_of args.now))
         (table.member_nodes (plans_of body.now)) (table.own_bytes descriptor (plans_of args.now) (plans_of body.now))) }
 {
-    let mut arguments = Vec::new(alloc);
+    let mut arguments = Vec::with_capacity(alloc, args.len())?;
     add_arguments(alloc, &mut arguments, fields_of(descriptor), args)?;
     let members = member_nodes(alloc, body)?;
     let described = resource_macros::descriptor::describe(alloc, descriptor, &arguments, &members)?;

@@ -3,6 +3,7 @@ ghost use Rattle.std.specs.Prelude.{◌≡◌, ◌≤◌, ◌∷◌, [], slice_g
 ghost use Rattle.asl_shape.specs.Shapes as spec;
 ghost use Rattle.asl_shape.specs.Plans.{plan_of, plans_of, plan_at, number_of, first_plans, join, constant_of};
 
+use crate::nodes::push;
 use crate::work::{is_omitted, value_of};
 use acpi_values::width::Width;
 use asl_tree::term::{Control, Declaration, Literal, Node, Op, Special, Term};
@@ -40,15 +41,6 @@ fn is_given(nodes: &[Node], i: usize) -> bool
         Some(node) => !is_omitted(&node.term),
         None => false,
     }
-}
-
-/// Adds a node, which has no number yet.
-#[tactic(auto, using(crate::proofs::Settled::push_rules))]
-pub fn push(nodes: &mut Vec<Node>, place: Place, term: Term) -> Result<(), AllocError>
-    ensures { OnOk result (plans_of nodes.new.items ≡ join (plans_of nodes.old.items) (spec.one_plan place (plan_of term))) }
-{
-    nodes.push(Node { id: 0, place, term })?;
-    Ok(())
 }
 
 /// Adds what stands for an argument that is not there: a further one has nothing.

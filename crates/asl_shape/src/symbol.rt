@@ -1,5 +1,5 @@
 //! What each symbol stands for (ACPI Specification 6.4, 19.2.6).
-ghost use Rattle.std.specs.Prelude.{◌≡◌};
+ghost use Rattle.std.specs.Prelude.{◌≡◌, ◌≤◌, ◌+◌, min};
 ghost use Rattle.asl_shape.specs.Symbols as spec;
 
 use acpi_values::operator::{DataOp, IntOp, Plain};
@@ -70,7 +70,9 @@ pub fn symbol_of(symbol: Infix) -> Op
 }
 
 // How many targets an operator that is written with a symbol has behind its operands once it is named.
-fn targets_of(op: Op) -> usize {
+fn targets_of(op: Op) -> usize
+    ensures { result ≤ 2 }
+{
     match op {
         Op::Symbolic(Symbolic::Operator(Plain::Number(op))) => match op {
             IntOp::Add
@@ -95,6 +97,9 @@ fn targets_of(op: Op) -> usize {
 
 /// For how many arguments of a form room is taken, which has so many parameters and is given so many arguments: with those are its
 /// targets. Only how much memory is taken at once rests on this.
-pub fn room_for(op: Op, parameters: usize, given: usize) -> usize {
+pub(crate) fn room_for(op: Op, parameters: usize, given: usize) -> usize
+    ensures given { min parameters given ≤ result }
+    ensures targets { result ≤ parameters + 2 }
+{
     parameters.min(given.max(8)).saturating_add(targets_of(op))
 }

@@ -1,8 +1,10 @@
-//! From the tree of the syntax to the program tree.
+//! From the tree of the syntax to the program tree. Each part pushes its node behind the others. What is rare is a function of its own
+//! that is not inlined, so that the usual way has a small frame.
 ghost use Rattle.std.specs.Prelude.{None, ◌≡◌, ◌++◌, ◌==◌, ◌&&◌, [], slice_get, length, nat_eq, OnOk, IfOk, IfErr, true, false};
 ghost use Rattle.asl_shape.specs.Shapes as spec;
 ghost use Rattle.asl_shape.specs.AtRaw as at;
 ghost use Rattle.asl_words.specs.Operators as table;
+ghost use Rattle.asl_words.specs.declared.operator.Slot.TheVariants as slots;
 ghost use Rattle.asl_words.specs.Paths;
 ghost use Rattle.asl_shape.specs.Plans.{plan_of, plans_of, join};
 
@@ -10,19 +12,20 @@ use crate::around::Around;
 use crate::elements::element_term;
 use crate::fields::{
     BITS, Due, UnitName, add_unit, begin, due_behind, element_place, is_field_list, meaning_in,
-    slot_of,
+    miss_comma, slot_of,
 };
 use crate::formats::count_arguments;
 use crate::item::{inside_of, is_given, item_fault};
-use crate::leaf::{known_term, listed, number, path, place_in, text};
+use crate::leaf::{add_list, add_number, add_path, add_text, known_term, place_in};
 use crate::lists::{
     byte_slot, count_members, default_after, is_listed, is_separator, run_after, within,
 };
 use crate::macros::first_term;
+use crate::nodes::{add_refused, push, take_last};
 use crate::resources;
-use crate::settle::{add_missing, arrange, number_in, push, settle};
+use crate::settle::{add_missing, arrange, number_in, settle};
 use crate::symbol::{room_for, symbol_of};
-use crate::work::{NOWHERE, Work, evaluate, is_evaluated, refuse, tell};
+use crate::work::{NOWHERE, Work, evaluate, is_evaluated, tell};
 use asl_parser::{Raw, Raws};
 use asl_tree::term::{Node, Op, Term};
 use asl_words::meaning::{Reading, is_whole, meaning_of, reading_of, slot_as, takes_role, unfit};
@@ -38,56 +41,36 @@ use iasl_ports::list::Text;
 use resource_layout::descriptor::Descriptor;
 use std::alloc::{AllocError, Global};
 
-// A part of a source where it is read so.
-#[cycle(shape)]
-#[tactic(auto, using(crate::proofs::Shapes::size_rules))]
-fn shape(
-    alloc: Global,
-    work: &mut Work,
-    slot: Slot,
-    inside: Around,
-    raw: &Raw,
-) -> Result<Term, AllocError>
-    ensures faults { OnOk result (work.new.faults.items ≡ work.old.faults.items ++ (at.shape_at slot inside raw.now).faults) }
-    ensures made { IfOk result (λ term. plan_of term ≡ (at.shape_at slot inside raw.now).made) }
-{
-    // Most slots ask for no more, and what is read is then moved once less.
-    if !is_evaluated(slot) {
-        return bare(alloc, work, slot, inside, raw);
-    }
-    let before = work.faults.len();
-    let term = bare(alloc, work, slot, inside, raw)?;
-    if work.faults.len() == before {
-        let place = place_in(NOWHERE, raw);
-        evaluate(alloc, work, inside.width, slot, place, term)
-    } else {
-        Ok(term)
-    }
-}
-
+// A part of a source where it is read so, but for the range of a constant: a node behind the others, at its place, or at this one where
+// it has none.
 #[cycle(shape)]
 #[tactic(auto, using(crate::proofs::Shapes::size_rules, crate::proofs::Shapes::bare_rules))]
-fn bare(
+fn add_bare(
     alloc: Global,
     work: &mut Work,
-    slot: Slot,
-    inside: Around,
+    nodes: &mut Vec<Node>,
+    slot: &Slot,
+    inside: &Around,
+    place: &Place,
     raw: &Raw,
-) -> Result<Term, AllocError>
-    ensures faults { OnOk result (work.new.faults.items ≡ work.old.faults.items ++ (at.bare_at slot inside raw.now).faults) }
-    ensures made { IfOk result (λ term. plan_of term ≡ (at.bare_at slot inside raw.now).made) }
+) -> Result<(), AllocError>
+    ensures faults { OnOk result (work.new.faults.items ≡ work.old.faults.items ++ (at.bare_at slot.now inside.now raw.now).faults) }
+    ensures made { OnOk result
+        (plans_of nodes.new.items ≡ join (plans_of nodes.old.items)
+        (at.one_at place.now raw.now (at.bare_at slot.now inside.now raw.now).made)) }
 {
     match raw {
-        Raw::Number { place, value } => number(alloc, work, slot, *place, *value),
-        Raw::Text { place, text: bytes } => text(alloc, work, slot, *place, bytes),
-        Raw::List { place, items } => listed(alloc, work, slot, *place, items.as_slice()),
-        Raw::Apply { place, op, args } => symbol(
+        Raw::Number { place, value } => add_number(alloc, work, nodes, slot, place, *value),
+        Raw::Text { place, text } => add_text(alloc, work, nodes, slot, place, text),
+        Raw::List { place, items } => add_list(alloc, work, nodes, slot, place, items.as_slice()),
+        Raw::Apply { place, op, args } => add_symbol(
             alloc,
             work,
+            nodes,
             slot,
             symbol_of(*op),
             inside,
-            *place,
+            place,
             args.as_slice(),
         ),
         Raw::Item {
@@ -95,31 +78,42 @@ fn bare(
             word,
             args,
             body,
-        } => item(alloc, work, slot, inside, *place, word, args, body),
-        Raw::Comma => Ok(Term::Omitted),
-        Raw::Semicolon => Ok(Term::Omitted),
-        Raw::Empty => Ok(Term::Omitted),
+        } => add_item(alloc, work, nodes, slot, inside, place, word, args, body),
+        Raw::Comma => push(nodes, *place, Term::Omitted),
+        Raw::Semicolon => push(nodes, *place, Term::Omitted),
+        Raw::Empty => push(nodes, *place, Term::Omitted),
     }
 }
 
-// A node at its place, or at this one where it has none.
+// The same with its range.
 #[cycle(shape)]
 #[tactic(auto, using(crate::proofs::Shapes::size_rules))]
 fn add(
     alloc: Global,
     work: &mut Work,
     nodes: &mut Vec<Node>,
-    slot: Slot,
-    inside: Around,
-    place: Place,
+    slot: &Slot,
+    inside: &Around,
+    place: &Place,
     raw: &Raw,
 ) -> Result<(), AllocError>
-    ensures faults { OnOk result (work.new.faults.items ≡ work.old.faults.items ++ (at.shape_at slot inside raw.now).faults) }
+    ensures faults { OnOk result (work.new.faults.items ≡ work.old.faults.items ++ (at.shape_at slot.now inside.now raw.now).faults) }
     ensures made { OnOk result
-        (plans_of nodes.new.items ≡ join (plans_of nodes.old.items) (at.one_at place raw.now (at.shape_at slot inside raw.now).made)) }
+        (plans_of nodes.new.items ≡ join (plans_of nodes.old.items)
+        (at.one_at place.now raw.now (at.shape_at slot.now inside.now raw.now).made)) }
 {
-    let term = shape(alloc, work, slot, inside, raw)?;
-    Ok(push(nodes, place_in(place, raw), term)?)
+    // Most slots ask for no more.
+    if !is_evaluated(*slot) {
+        return add_bare(alloc, work, nodes, slot, inside, place, raw);
+    }
+    let before = work.faults.len();
+    add_bare(alloc, work, nodes, slot, inside, place, raw)?;
+    if work.faults.len() == before {
+        let own = place_in(NOWHERE, raw);
+        evaluate(alloc, work, inside.width, *slot, own, nodes)
+    } else {
+        Ok(())
+    }
 }
 
 // A member of a list, unless it only separates others.
@@ -129,17 +123,18 @@ fn add_member(
     alloc: Global,
     work: &mut Work,
     nodes: &mut Vec<Node>,
-    slot: Slot,
-    inside: Around,
+    slot: &Slot,
+    inside: &Around,
     raw: &Raw,
 ) -> Result<(), AllocError>
-    ensures faults { OnOk result (work.new.faults.items ≡ work.old.faults.items ++ (at.member_at slot inside raw.now).faults) }
-    ensures made { OnOk result (plans_of nodes.new.items ≡ join (plans_of nodes.old.items) (at.member_at slot inside raw.now).made) }
+    ensures faults { OnOk result (work.new.faults.items ≡ work.old.faults.items ++ (at.member_at slot.now inside.now raw.now).faults) }
+    ensures made { OnOk result (plans_of nodes.new.items ≡ join (plans_of nodes.old.items)
+        (at.member_at slot.now inside.now raw.now).made) }
 {
     if is_separator(raw) {
         return Ok(());
     }
-    Ok(add(alloc, work, nodes, slot, inside, NOWHERE, raw)?)
+    Ok(add(alloc, work, nodes, slot, inside, &NOWHERE, raw)?)
 }
 
 // The arguments of a call.
@@ -149,17 +144,16 @@ fn operands(
     alloc: Global,
     work: &mut Work,
     nodes: &mut Vec<Node>,
-    slot: Slot,
-    inside: Around,
+    inside: &Around,
     args: &[Raw],
 ) -> Result<(), AllocError>
-    ensures faults { OnOk result (work.new.faults.items ≡ work.old.faults.items ++ (at.operands_at slot inside args.now).faults) }
-    ensures made { OnOk result (plans_of nodes.new.items ≡ join (plans_of nodes.old.items) (at.operands_at slot inside args.now).made) }
+    ensures faults { OnOk result
+        (work.new.faults.items ≡ work.old.faults.items ++ (at.operands_at slots.Expression inside.now args.now).faults) }
+    ensures made { OnOk result (plans_of nodes.new.items ≡ join (plans_of nodes.old.items)
+        (at.operands_at slots.Expression inside.now args.now).made) }
 {
-    let mut next = slot;
     for raw in args {
-        add(alloc, work, nodes, next, inside, NOWHERE, raw)?;
-        next = Slot::Expression;
+        add(alloc, work, nodes, &Slot::Expression, inside, &NOWHERE, raw)?;
     }
     Ok(())
 }
@@ -167,29 +161,33 @@ fn operands(
 // An item.
 #[cycle(shape)]
 #[tactic(auto, unfolding(crate::specs::AtRaw::item_at), using(crate::proofs::Shapes::size_rules))]
-fn item(
+fn add_item(
     alloc: Global,
     work: &mut Work,
-    slot: Slot,
-    inside: Around,
-    place: Place,
+    nodes: &mut Vec<Node>,
+    slot: &Slot,
+    inside: &Around,
+    place: &Place,
     word: &Text,
     args: &Option<Raws>,
     body: &Option<Raws>,
-) -> Result<Term, AllocError>
+) -> Result<(), AllocError>
     ensures faults { OnOk result
-        (work.new.faults.items ≡ work.old.faults.items ++ (at.item_at slot inside place word.now args.now body.now).faults) }
-    ensures made { IfOk result (λ term. plan_of term ≡ (at.item_at slot inside place word.now args.now body.now).made) }
+        (work.new.faults.items ≡ work.old.faults.items ++ (at.item_at slot.now inside.now place.now word.now args.now body.now).faults) }
+    ensures made { OnOk result
+        (plans_of nodes.new.items ≡ join (plans_of nodes.old.items)
+        (spec.one_plan place.now (at.item_at slot.now inside.now place.now word.now args.now body.now).made)) }
 {
     let meaning = meaning_of(word.as_bytes(), is_given(body));
-    if let Some(fault) = item_fault(slot, inside, meaning, inside_of(args), is_given(body)) {
-        return Ok(refuse(alloc, work, fault, place)?);
+    if let Some(fault) = item_fault(*slot, *inside, meaning, inside_of(args), is_given(body)) {
+        return add_refused(alloc, work, nodes, fault, *place);
     }
-    read(
+    add_reading(
         alloc,
         work,
+        nodes,
         slot,
-        reading_of(slot, meaning, is_given(args)),
+        reading_of(*slot, meaning, is_given(args)),
         inside,
         place,
         word,
@@ -201,208 +199,215 @@ fn item(
 // An item as it is read.
 #[cycle(shape)]
 #[tactic(auto, using(crate::proofs::Shapes::size_rules, crate::proofs::Shapes::read_rules))]
-fn read(
+fn add_reading(
     alloc: Global,
     work: &mut Work,
-    slot: Slot,
+    nodes: &mut Vec<Node>,
+    slot: &Slot,
     reading: Reading,
-    inside: Around,
-    place: Place,
+    inside: &Around,
+    place: &Place,
     word: &Text,
     args: &Option<Raws>,
     body: &Option<Raws>,
-) -> Result<Term, AllocError>
+) -> Result<(), AllocError>
     ensures faults { OnOk result
-        (work.new.faults.items ≡ work.old.faults.items ++ (at.read_at slot place word.now reading inside args.now body.now).faults) }
-    ensures made { IfOk result (λ term. plan_of term ≡ (at.read_at slot place word.now reading inside args.now body.now).made) }
+        (work.new.faults.items ≡ work.old.faults.items
+        ++ (at.read_at slot.now place.now word.now reading inside.now args.now body.now).faults) }
+    ensures made { OnOk result
+        (plans_of nodes.new.items ≡ join (plans_of nodes.old.items)
+        (spec.one_plan place.now (at.read_at slot.now place.now word.now reading inside.now args.now body.now).made)) }
 {
     match reading {
-        Reading::Wrong => refuse(alloc, work, unfit(slot), place),
-        Reading::Path => path(alloc, work, place, word.as_bytes()),
-        Reading::Call => call(alloc, work, inside, place, word, args),
-        Reading::Element(word) => element(alloc, work, word, inside, place, args),
-        Reading::Macro(of) => text_macro(alloc, work, of, inside, place, args),
-        Reading::Template => template(alloc, work, inside, place, body),
-        Reading::Descriptor(of) => descriptor(alloc, work, of, inside, place, args, body),
-        Reading::Known(known) => Ok(known_term(slot, known)),
-        Reading::Form(op) => { form(alloc, work, slot, op, inside, place, inside_of(args), body) }
+        Reading::Wrong => add_refused(alloc, work, nodes, unfit(*slot), *place),
+        Reading::Path => add_path(alloc, work, nodes, place, word.as_bytes()),
+        Reading::Call => add_call(alloc, work, nodes, inside, place, word, args),
+        Reading::Element(word) => add_element(alloc, work, nodes, word, inside, place, args),
+        Reading::Macro(of) => add_macro(alloc, work, nodes, of, inside, place, args),
+        Reading::Template => add_template(alloc, work, nodes, inside, place, body),
+        Reading::Descriptor(of) => add_descriptor(
+            alloc, work, nodes, of, inside, place, args, body,
+        ),
+        Reading::Known(known) => push(nodes, *place, known_term(*slot, known)),
+        Reading::Form(op) => {
+            add_form(
+                alloc,
+                work,
+                nodes,
+                slot,
+                op,
+                inside,
+                place,
+                inside_of(args),
+                body,
+            )
+        }
     }
 }
 
 // A name with its arguments.
 #[cycle(shape)]
+#[inline(never)]
 #[tactic(auto, using(crate::proofs::Shapes::size_rules, crate::proofs::Shapes::call_rules))]
-fn call(
+fn add_call(
     alloc: Global,
     work: &mut Work,
-    inside: Around,
-    place: Place,
+    nodes: &mut Vec<Node>,
+    inside: &Around,
+    place: &Place,
     word: &Text,
     args: &Option<Raws>,
-) -> Result<Term, AllocError>
+) -> Result<(), AllocError>
     ensures faults { OnOk result
         (work.new.faults.items ≡ work.old.faults.items
-        ++ (spec.call_shape place (Paths.path_of word.now) (at.call_at inside args.now)).faults) }
-    ensures made { IfOk result (λ term. plan_of term ≡ (spec.call_shape place (Paths.path_of word.now) (at.call_at inside args.now)).made) }
+        ++ (spec.call_shape place.now (Paths.path_of word.now) (at.call_at inside.now args.now)).faults) }
+    ensures made { OnOk result
+        (plans_of nodes.new.items ≡ join (plans_of nodes.old.items)
+        (spec.one_plan place.now (spec.call_shape place.now (Paths.path_of word.now) (at.call_at inside.now args.now)).made)) }
 {
     let Some(path) = path_of(alloc, word.as_bytes())? else {
-        return Ok(refuse(alloc, work, VALUE_OUT_OF_RANGE, place)?);
+        return add_refused(alloc, work, nodes, VALUE_OUT_OF_RANGE, *place);
     };
-    let mut nodes = Vec::new(alloc);
-    operands(
-        alloc,
-        work,
-        &mut nodes,
-        Slot::Expression,
-        inside,
-        inside_of(args),
-    )?;
-    Ok(Term::Call { path, args: nodes })
+    let mut given = Vec::new(alloc);
+    operands(alloc, work, &mut given, inside, inside_of(args))?;
+    push(nodes, *place, Term::Call { path, args: given })
 }
 
 // A word of a field's list with its arguments.
 #[cycle(shape)]
+#[inline(never)]
 #[tactic(auto, using(crate::proofs::Shapes::size_rules, crate::proofs::Shapes::element_rules))]
-fn element(
+fn add_element(
     alloc: Global,
     work: &mut Work,
+    nodes: &mut Vec<Node>,
     word: FieldWord,
-    inside: Around,
-    place: Place,
+    inside: &Around,
+    place: &Place,
     args: &Option<Raws>,
-) -> Result<Term, AllocError>
-    ensures faults { OnOk result (work.new.faults.items ≡ work.old.faults.items ++ (at.element_at word place inside args.now).faults) }
-    ensures made { IfOk result (λ term. plan_of term ≡ (at.element_at word place inside args.now).made) }
+) -> Result<(), AllocError>
+    ensures faults { OnOk result
+        (work.new.faults.items ≡ work.old.faults.items ++ (at.element_at word place.now inside.now args.now).faults) }
+    ensures made { OnOk result
+        (plans_of nodes.new.items ≡ join (plans_of nodes.old.items)
+        (spec.one_plan place.now (at.element_at word place.now inside.now args.now).made)) }
 {
-    let mut nodes = Vec::new(alloc);
-    arguments(
-        alloc,
-        work,
-        &mut nodes,
-        element_parameters(word),
-        inside,
-        place,
-        inside_of(args),
-    )?;
-    Ok(element_term(alloc, word, &mut nodes)?)
+    let parameters = element_parameters(word);
+    let args = inside_of(args);
+    let mut given = Vec::new(alloc);
+    arguments(alloc, work, &mut given, parameters, inside, place, args)?;
+    let term = element_term(alloc, word, &mut given)?;
+    push(nodes, *place, term)
 }
 
 // A macro with its string.
 #[cycle(shape)]
+#[inline(never)]
 #[tactic(auto, using(crate::proofs::Shapes::size_rules, crate::proofs::Shapes::macro_rules))]
-fn text_macro(
+fn add_macro(
     alloc: Global,
     work: &mut Work,
+    nodes: &mut Vec<Node>,
     of: TextMacro,
-    inside: Around,
-    place: Place,
+    inside: &Around,
+    place: &Place,
     args: &Option<Raws>,
-) -> Result<Term, AllocError>
-    ensures faults { OnOk result (work.new.faults.items ≡ work.old.faults.items ++ (at.macro_at of place inside args.now).faults) }
-    ensures made { IfOk result (λ term. plan_of term ≡ (at.macro_at of place inside args.now).made) }
+) -> Result<(), AllocError>
+    ensures faults { OnOk result (work.new.faults.items ≡ work.old.faults.items ++ (at.macro_at of place.now inside.now args.now).faults) }
+    ensures made { OnOk result
+        (plans_of nodes.new.items ≡ join (plans_of nodes.old.items)
+        (spec.one_plan place.now (at.macro_at of place.now inside.now args.now).made)) }
 {
-    let mut nodes = Vec::new(alloc);
-    arguments(
-        alloc,
-        work,
-        &mut nodes,
-        macro_parameters(of),
-        inside,
-        place,
-        inside_of(args),
-    )?;
-    Ok(first_term(&mut nodes))
+    let parameters = macro_parameters(of);
+    let args = inside_of(args);
+    let mut given = Vec::new(alloc);
+    arguments(alloc, work, &mut given, parameters, inside, place, args)?;
+    push(nodes, *place, first_term(&mut given))
 }
 
 // A resource template with its descriptors.
 #[cycle(shape)]
+#[inline(never)]
 #[tactic(auto, using(crate::proofs::Shapes::size_rules, crate::proofs::Shapes::template_rules))]
-fn template(
+fn add_template(
     alloc: Global,
     work: &mut Work,
-    inside: Around,
-    place: Place,
+    nodes: &mut Vec<Node>,
+    inside: &Around,
+    place: &Place,
     body: &Option<Raws>,
-) -> Result<Term, AllocError>
-    ensures faults { OnOk result (work.new.faults.items ≡ work.old.faults.items ++ (at.template_at place inside body.now).faults) }
-    ensures made { IfOk result (λ term. plan_of term ≡ (at.template_at place inside body.now).made) }
+) -> Result<(), AllocError>
+    ensures faults { OnOk result (work.new.faults.items ≡ work.old.faults.items ++ (at.template_at place.now inside.now body.now).faults) }
+    ensures made { OnOk result
+        (plans_of nodes.new.items ≡ join (plans_of nodes.old.items)
+        (spec.one_plan place.now (at.template_at place.now inside.now body.now).made)) }
 {
-    let mut nodes = Vec::new(alloc);
-    contents(
-        alloc,
-        work,
-        &mut nodes,
-        Body::Descriptors { chosen: false },
-        inside,
-        place,
-        body,
-    )?;
-    Ok(resources::template(alloc, place, &nodes)?)
+    let braces = Body::Descriptors { chosen: false };
+    let mut members = Vec::new(alloc);
+    contents(alloc, work, &mut members, braces, inside, place, body)?;
+    let term = resources::template(alloc, *place, &members)?;
+    push(nodes, *place, term)
 }
 
 // A resource descriptor with its arguments and its braces.
 #[cycle(shape)]
+#[inline(never)]
 #[tactic(auto, using(crate::proofs::Shapes::size_rules, crate::proofs::Shapes::descriptor_rules))]
-fn descriptor(
+fn add_descriptor(
     alloc: Global,
     work: &mut Work,
+    nodes: &mut Vec<Node>,
     of: Descriptor,
-    inside: Around,
-    place: Place,
+    inside: &Around,
+    place: &Place,
     args: &Option<Raws>,
     body: &Option<Raws>,
-) -> Result<Term, AllocError>
+) -> Result<(), AllocError>
     ensures faults { OnOk result
-        (work.new.faults.items ≡ work.old.faults.items ++ (at.descriptor_at of place inside args.now body.now).faults) }
-    ensures made { IfOk result (λ term. plan_of term ≡ (at.descriptor_at of place inside args.now body.now).made) }
+        (work.new.faults.items ≡ work.old.faults.items ++ (at.descriptor_at of place.now inside.now args.now body.now).faults) }
+    ensures made { OnOk result
+        (plans_of nodes.new.items ≡ join (plans_of nodes.old.items)
+        (spec.one_plan place.now (at.descriptor_at of place.now inside.now args.now body.now).made)) }
 {
-    let mut nodes = Vec::new(alloc);
-    arguments(
-        alloc,
-        work,
-        &mut nodes,
-        descriptor_parameters(of),
-        inside,
-        place,
-        inside_of(args),
-    )?;
+    let parameters = descriptor_parameters(of);
+    let args = inside_of(args);
+    let mut given = Vec::new(alloc);
+    arguments(alloc, work, &mut given, parameters, inside, place, args)?;
+    let braces = descriptor_body(of);
     let mut members = Vec::new(alloc);
-    contents(
-        alloc,
-        work,
-        &mut members,
-        descriptor_body(of),
-        inside,
-        place,
-        body,
-    )?;
-    Ok(resources::describe(alloc, work, of, place, &nodes, &members)?)
+    contents(alloc, work, &mut members, braces, inside, place, body)?;
+    let term = resources::describe(alloc, work, of, *place, &given, &members)?;
+    push(nodes, *place, term)
 }
 
 // What is written with a symbol, with its operands.
 #[cycle(shape)]
 #[tactic(auto, using(crate::proofs::Shapes::size_rules, crate::proofs::Shapes::symbol_rules))]
-fn symbol(
+fn add_symbol(
     alloc: Global,
     work: &mut Work,
-    slot: Slot,
+    nodes: &mut Vec<Node>,
+    slot: &Slot,
     op: Op,
-    inside: Around,
-    place: Place,
+    inside: &Around,
+    place: &Place,
     args: &[Raw],
-) -> Result<Term, AllocError>
+) -> Result<(), AllocError>
     ensures faults { OnOk result
         (work.new.faults.items ≡ work.old.faults.items
-        ++ (spec.symbol_shape inside.width slot place op (at.arguments_in_at (table.parameters_of op) place inside args.now)).faults) }
-    ensures made { IfOk result
-        (λ term. plan_of term ≡
-        (spec.symbol_shape inside.width slot place op (at.arguments_in_at (table.parameters_of op) place inside args.now)).made) }
+        ++ (spec.symbol_shape inside.now.width slot.now place.now op
+        (at.arguments_in_at (table.parameters_of op) place.now inside.now args.now)).faults) }
+    ensures made { OnOk result
+        (plans_of nodes.new.items ≡ join (plans_of nodes.old.items)
+        (spec.one_plan place.now (spec.symbol_shape inside.now.width slot.now place.now op
+        (at.arguments_in_at (table.parameters_of op) place.now inside.now args.now)).made)) }
 {
-    if takes_role(slot, role_of(op)) {
-        form(
+    if takes_role(*slot, role_of(op)) {
+        add_form(
             alloc,
             work,
-            Slot::Expression,
+            nodes,
+            &Slot::Expression,
             op,
             inside,
             place,
@@ -410,52 +415,57 @@ fn symbol(
             &None,
         )
     } else {
-        refuse(alloc, work, unfit(slot), place)
+        add_refused(alloc, work, nodes, unfit(*slot), *place)
     }
 }
 
 // An operator with its arguments and its braces, read so.
 #[cycle(shape)]
 #[tactic(auto, using(crate::proofs::Shapes::size_rules, crate::proofs::Shapes::form_rules))]
-fn form(
+fn add_form(
     alloc: Global,
     work: &mut Work,
-    slot: Slot,
+    nodes: &mut Vec<Node>,
+    slot: &Slot,
     op: Op,
-    inside: Around,
-    place: Place,
+    inside: &Around,
+    place: &Place,
     args: &[Raw],
     body: &Option<Raws>,
-) -> Result<Term, AllocError>
+) -> Result<(), AllocError>
     ensures faults { OnOk result
         (work.new.faults.items ≡ work.old.faults.items
-        ++ (spec.form_shape inside.width op place (at.arguments_in_at (table.parameters_as op slot) place inside args.now)
-        (at.contents_at (table.body_as op slot) (spec.within op inside) place body.now)).faults) }
-    ensures made { IfOk result (λ term. plan_of term ≡
-        (spec.form_shape inside.width op place (at.arguments_in_at (table.parameters_as op slot) place inside args.now)
-        (at.contents_at (table.body_as op slot) (spec.within op inside) place body.now)).made) }
+        ++ (spec.form_shape inside.now.width op place.now
+        (at.arguments_in_at (table.parameters_as op slot.now) place.now inside.now args.now)
+        (at.contents_at (table.body_as op slot.now) (spec.within op inside.now) place.now body.now)).faults) }
+    ensures made { OnOk result
+        (plans_of nodes.new.items ≡ join (plans_of nodes.old.items)
+        (spec.one_plan place.now (spec.form_shape inside.now.width op place.now
+        (at.arguments_in_at (table.parameters_as op slot.now) place.now inside.now args.now)
+        (at.contents_at (table.body_as op slot.now) (spec.within op inside.now) place.now body.now)).made)) }
 {
-    let parameters = parameters_as(op, slot);
-    let mut nodes = Vec::with_capacity(alloc, room_for(op, parameters.len(), args.len()))?;
-    arguments(alloc, work, &mut nodes, parameters, inside, place, args)?;
-    count_arguments(alloc, work, op, place, &nodes)?;
-    settle(alloc, inside.width, op, place, &mut nodes)?;
+    let parameters = parameters_as(op, *slot);
+    let mut given = Vec::with_capacity(alloc, room_for(op, parameters.len(), args.len()))?;
+    arguments(alloc, work, &mut given, parameters, inside, place, args)?;
+    count_arguments(alloc, work, op, *place, &given)?;
+    settle(alloc, inside.width, op, *place, &mut given)?;
     let mut terms = Vec::new(alloc);
     contents(
         alloc,
         work,
         &mut terms,
-        body_as(op, slot),
-        within(op, inside),
+        body_as(op, *slot),
+        &within(op, *inside),
         place,
         body,
     )?;
     arrange(op, &mut terms)?;
-    Ok(Term::Form {
+    let term = Term::Form {
         op,
-        args: nodes,
+        args: given,
         body: terms,
-    })
+    };
+    push(nodes, *place, term)
 }
 
 // The argument of this number, by its letter.
@@ -465,28 +475,30 @@ fn add_argument(
     alloc: Global,
     work: &mut Work,
     nodes: &mut Vec<Node>,
-    parameter: Parameter,
-    inside: Around,
-    place: Place,
+    parameter: &Parameter,
+    inside: &Around,
+    place: &Place,
     args: &[Raw],
     i: usize,
 ) -> Result<(), AllocError>
     ensures faults { OnOk result
-        (work.new.faults.items ≡ work.old.faults.items ++ (at.argument_at parameter place inside (slice_get args.now i)).faults) }
+        (work.new.faults.items ≡ work.old.faults.items
+        ++ (at.argument_at parameter.now place.now inside.now (slice_get args.now i)).faults) }
     ensures made { OnOk result
-        (plans_of nodes.new.items ≡ join (plans_of nodes.old.items) (at.argument_at parameter place inside (slice_get args.now i)).made) }
+        (plans_of nodes.new.items ≡ join (plans_of nodes.old.items)
+        (at.argument_at parameter.now place.now inside.now (slice_get args.now i)).made) }
 {
     match args.get(i) {
         Some(raw) => Ok(add(
             alloc,
             work,
             nodes,
-            slot_of(parameter.slot, raw),
+            &slot_of(parameter.slot, raw),
             inside,
             place,
             raw,
         )?),
-        None => Ok(add_missing(nodes, place, parameter)?),
+        None => Ok(add_missing(nodes, *place, *parameter)?),
     }
 }
 
@@ -498,17 +510,18 @@ pub fn arguments(
     work: &mut Work,
     nodes: &mut Vec<Node>,
     parameters: &[Parameter],
-    inside: Around,
-    place: Place,
+    inside: &Around,
+    place: &Place,
     args: &[Raw],
 ) -> Result<(), AllocError>
     ensures faults { OnOk result
-        (work.new.faults.items ≡ work.old.faults.items ++ (at.arguments_in_at parameters.now place inside args.now).faults) }
+        (work.new.faults.items ≡ work.old.faults.items ++ (at.arguments_in_at parameters.now place.now inside.now args.now).faults) }
     ensures made { OnOk result
-        (plans_of nodes.new.items ≡ join (plans_of nodes.old.items) (at.arguments_in_at parameters.now place inside args.now).made) }
+        (plans_of nodes.new.items ≡ join (plans_of nodes.old.items)
+        (at.arguments_in_at parameters.now place.now inside.now args.now).made) }
 {
     for i in 0..parameters.len() {
-        add_argument(alloc, work, nodes, parameters[i], inside, place, args, i)?;
+        add_argument(alloc, work, nodes, &parameters[i], inside, place, args, i)?;
     }
     Ok(())
 }
@@ -521,13 +534,14 @@ fn contents(
     work: &mut Work,
     nodes: &mut Vec<Node>,
     body: Body,
-    inside: Around,
-    place: Place,
+    inside: &Around,
+    place: &Place,
     raws: &Option<Raws>,
 ) -> Result<(), AllocError>
-    ensures faults { OnOk result (work.new.faults.items ≡ work.old.faults.items ++ (at.contents_at body inside place raws.now).faults) }
+    ensures faults { OnOk result
+        (work.new.faults.items ≡ work.old.faults.items ++ (at.contents_at body inside.now place.now raws.now).faults) }
     ensures made { OnOk result
-        (plans_of nodes.new.items ≡ join (plans_of nodes.old.items) (at.contents_at body inside place raws.now).made) }
+        (plans_of nodes.new.items ≡ join (plans_of nodes.old.items) (at.contents_at body inside.now place.now raws.now).made) }
 {
     let Some(raws) = raws else {
         return Ok(());
@@ -536,33 +550,20 @@ fn contents(
     match body {
         Body::No => Ok(()),
         Body::Terms => Ok(terms(alloc, work, nodes, inside, raws)?),
-        Body::Bytes => Ok(elements(alloc, work, nodes, byte_slot(raws), inside, place, raws)?),
-        Body::Elements => Ok(elements(alloc, work, nodes, Slot::Element, inside, place, raws)?),
+        Body::Bytes => Ok(elements(alloc, work, nodes, &byte_slot(raws), inside, place, raws)?),
+        Body::Elements => Ok(elements(alloc, work, nodes, &Slot::Element, inside, place, raws)?),
         Body::FieldList => Ok(field_list(alloc, work, nodes, inside, place, raws)?),
         Body::Numbers { most } => {
-            Ok(elements(
-                alloc,
-                work,
-                nodes,
-                Slot::Constant { least: 0, most },
-                inside,
-                place,
-                raws,
-            )?)
+            let slot = Slot::Constant { least: 0, most };
+            Ok(elements(alloc, work, nodes, &slot, inside, place, raws)?)
         }
         Body::Descriptors { chosen } => {
-            Ok(members(
-                alloc,
-                work,
-                nodes,
-                Slot::Descriptor { chosen },
-                inside,
-                raws,
-            )?)
+            let slot = Slot::Descriptor { chosen };
+            Ok(members(alloc, work, nodes, &slot, inside, raws)?)
         }
         Body::Cases => Ok(cases(alloc, work, nodes, inside, raws)?),
         Body::CaseMembers => {
-            Ok(elements(alloc, work, nodes, Slot::CaseMember, inside, place, raws)?)
+            Ok(elements(alloc, work, nodes, &Slot::CaseMember, inside, place, raws)?)
         }
     }
 }
@@ -574,19 +575,20 @@ fn field_list(
     alloc: Global,
     work: &mut Work,
     nodes: &mut Vec<Node>,
-    inside: Around,
-    place: Place,
+    inside: &Around,
+    place: &Place,
     raws: &[Raw],
 ) -> Result<(), AllocError>
     ensures faults { OnOk result
         (work.new.faults.items ≡ work.old.faults.items
-        ++ (spec.list_shape place (at.is_field_list_at spec.begin raws.now) (at.elements_at spec.begin None inside raws.now)).faults) }
+        ++ (spec.list_shape place.now (at.is_field_list_at spec.begin raws.now)
+        (at.elements_at spec.begin None inside.now raws.now)).faults) }
     ensures made { OnOk result
         (plans_of nodes.new.items ≡ join (plans_of nodes.old.items)
-        (spec.list_shape place (at.is_field_list_at spec.begin raws.now) (at.elements_at spec.begin None inside raws.now)).made) }
+        (spec.list_shape place.now (at.is_field_list_at spec.begin raws.now) (at.elements_at spec.begin None inside.now raws.now)).made) }
 {
     if !is_field_list(raws) {
-        return Ok(tell(alloc, work, WRONG_ARGUMENT_FORM, place)?);
+        return Ok(tell(alloc, work, WRONG_ARGUMENT_FORM, *place)?);
     }
     Ok(field_elements(alloc, work, nodes, inside, raws)?)
 }
@@ -597,13 +599,13 @@ fn field_elements(
     alloc: Global,
     work: &mut Work,
     nodes: &mut Vec<Node>,
-    inside: Around,
+    inside: &Around,
     raws: &[Raw],
 ) -> Result<(), AllocError>
     ensures faults { OnOk result
-        (work.new.faults.items ≡ work.old.faults.items ++ (at.elements_at spec.begin None inside raws.now).faults) }
+        (work.new.faults.items ≡ work.old.faults.items ++ (at.elements_at spec.begin None inside.now raws.now).faults) }
     ensures made { OnOk result
-        (plans_of nodes.new.items ≡ join (plans_of nodes.old.items) (at.elements_at spec.begin None inside raws.now).made) }
+        (plans_of nodes.new.items ≡ join (plans_of nodes.old.items) (at.elements_at spec.begin None inside.now raws.now).made) }
 {
     let mut due = Due::Element;
     let mut unit = None;
@@ -623,12 +625,12 @@ fn add_part(
     nodes: &mut Vec<Node>,
     due: Due,
     unit: Option<UnitName>,
-    inside: Around,
+    inside: &Around,
     raw: &Raw,
 ) -> Result<Option<UnitName>, AllocError>
-    ensures faults { OnOk result (work.new.faults.items ≡ work.old.faults.items ++ (at.part_at due unit inside raw.now).faults) }
-    ensures made { OnOk result (plans_of nodes.new.items ≡ join (plans_of nodes.old.items) (at.part_at due unit inside raw.now).made) }
-    ensures unit { IfOk result (λ next. next ≡ at.unit_at due unit inside raw.now) }
+    ensures faults { OnOk result (work.new.faults.items ≡ work.old.faults.items ++ (at.part_at due unit inside.now raw.now).faults) }
+    ensures made { OnOk result (plans_of nodes.new.items ≡ join (plans_of nodes.old.items) (at.part_at due unit inside.now raw.now).made) }
+    ensures unit { IfOk result (λ next. next ≡ at.unit_at due unit inside.now raw.now) }
 {
     match due {
         Due::Element => Ok(begin_element(alloc, work, nodes, inside, raw)?),
@@ -644,6 +646,25 @@ fn add_part(
     }
 }
 
+// The term of a part, which is no node of its own.
+#[cycle(shape)]
+#[tactic(auto, using(crate::proofs::Shapes::size_rules))]
+fn read_term(
+    alloc: Global,
+    work: &mut Work,
+    nodes: &mut Vec<Node>,
+    slot: &Slot,
+    inside: &Around,
+    raw: &Raw,
+) -> Result<Term, AllocError>
+    ensures faults { OnOk result (work.new.faults.items ≡ work.old.faults.items ++ (at.shape_at slot.now inside.now raw.now).faults) }
+    ensures nodes { OnOk result (plans_of nodes.new.items ≡ plans_of nodes.old.items) }
+    ensures made { IfOk result (λ term. plan_of term ≡ (at.shape_at slot.now inside.now raw.now).made) }
+{
+    add(alloc, work, nodes, slot, inside, &NOWHERE, raw)?;
+    Ok(take_last(nodes))
+}
+
 // A whole element, or the name of a unit; a comma begins a gap.
 #[cycle(shape)]
 #[tactic(auto, using(crate::proofs::Shapes::size_rules, crate::proofs::FieldSteps::begin_rules))]
@@ -651,44 +672,20 @@ fn begin_element(
     alloc: Global,
     work: &mut Work,
     nodes: &mut Vec<Node>,
-    inside: Around,
+    inside: &Around,
     raw: &Raw,
 ) -> Result<Option<UnitName>, AllocError>
-    ensures faults { OnOk result (work.new.faults.items ≡ work.old.faults.items ++ (at.begin_at inside raw.now).faults) }
-    ensures made { OnOk result (plans_of nodes.new.items ≡ join (plans_of nodes.old.items) (at.begin_at inside raw.now).made) }
-    ensures unit { IfOk result (λ next. next ≡ at.unit_at spec.begin None inside raw.now) }
+    ensures faults { OnOk result (work.new.faults.items ≡ work.old.faults.items ++ (at.begin_at inside.now raw.now).faults) }
+    ensures made { OnOk result (plans_of nodes.new.items ≡ join (plans_of nodes.old.items) (at.begin_at inside.now raw.now).made) }
+    ensures unit { IfOk result (λ next. next ≡ at.unit_at spec.begin None inside.now raw.now) }
 {
     if is_separator(raw) {
         return Ok(None);
     }
     let meaning = meaning_in(raw);
-    let term = shape(
-        alloc,
-        work,
-        slot_as(Slot::FieldElement, meaning),
-        inside,
-        raw,
-    )?;
+    let slot = slot_as(Slot::FieldElement, meaning);
+    let term = read_term(alloc, work, nodes, &slot, inside, raw)?;
     Ok(begin(nodes, is_whole(meaning), element_place(raw), term)?)
-}
-
-// Tells of a unit's name that has no comma behind it.
-#[tactic(auto, using(crate::proofs::FieldSteps::comma_rules))]
-fn miss_comma(
-    alloc: Global,
-    work: &mut Work,
-    unit: Option<UnitName>,
-    raw: &Raw,
-) -> Result<(), AllocError>
-    ensures { OnOk result (work.new.faults.items ≡ work.old.faults.items ++ (at.comma_at unit raw.now).faults) }
-{
-    if is_separator(raw) {
-        return Ok(());
-    }
-    match unit {
-        Some(unit) => Ok(tell(alloc, work, WRONG_ARGUMENT_FORM, unit.place)?),
-        None => Ok(()),
-    }
 }
 
 // The number of bits of a unit or of a gap.
@@ -699,13 +696,13 @@ fn add_bits(
     work: &mut Work,
     nodes: &mut Vec<Node>,
     unit: Option<UnitName>,
-    inside: Around,
+    inside: &Around,
     raw: &Raw,
 ) -> Result<(), AllocError>
-    ensures faults { OnOk result (work.new.faults.items ≡ work.old.faults.items ++ (at.bits_at unit inside raw.now).faults) }
-    ensures made { OnOk result (plans_of nodes.new.items ≡ join (plans_of nodes.old.items) (at.bits_at unit inside raw.now).made) }
+    ensures faults { OnOk result (work.new.faults.items ≡ work.old.faults.items ++ (at.bits_at unit inside.now raw.now).faults) }
+    ensures made { OnOk result (plans_of nodes.new.items ≡ join (plans_of nodes.old.items) (at.bits_at unit inside.now raw.now).made) }
 {
-    let term = shape(alloc, work, BITS, inside, raw)?;
+    let term = read_term(alloc, work, nodes, &BITS, inside, raw)?;
     Ok(add_unit(nodes, unit, element_place(raw), number_in(&term))?)
 }
 
@@ -716,20 +713,20 @@ fn elements(
     alloc: Global,
     work: &mut Work,
     nodes: &mut Vec<Node>,
-    slot: Slot,
-    inside: Around,
-    place: Place,
+    slot: &Slot,
+    inside: &Around,
+    place: &Place,
     raws: &[Raw],
 ) -> Result<(), AllocError>
     ensures faults { OnOk result
         (work.new.faults.items ≡ work.old.faults.items
-        ++ (spec.list_shape place (at.is_listed_at true raws.now) (at.members_at slot inside raws.now)).faults) }
+        ++ (spec.list_shape place.now (at.is_listed_at true raws.now) (at.members_at slot.now inside.now raws.now)).faults) }
     ensures made { OnOk result
         (plans_of nodes.new.items ≡ join (plans_of nodes.old.items)
-        (spec.list_shape place (at.is_listed_at true raws.now) (at.members_at slot inside raws.now)).made) }
+        (spec.list_shape place.now (at.is_listed_at true raws.now) (at.members_at slot.now inside.now raws.now)).made) }
 {
     if !is_listed(raws) {
-        return Ok(tell(alloc, work, WRONG_ARGUMENT_FORM, place)?);
+        return Ok(tell(alloc, work, WRONG_ARGUMENT_FORM, *place)?);
     }
     // every other member is a comma
     nodes.reserve_exact(raws.len() / 2 + 1)?;
@@ -742,12 +739,13 @@ fn members(
     alloc: Global,
     work: &mut Work,
     nodes: &mut Vec<Node>,
-    slot: Slot,
-    inside: Around,
+    slot: &Slot,
+    inside: &Around,
     raws: &[Raw],
 ) -> Result<(), AllocError>
-    ensures faults { OnOk result (work.new.faults.items ≡ work.old.faults.items ++ (at.members_at slot inside raws.now).faults) }
-    ensures made { OnOk result (plans_of nodes.new.items ≡ join (plans_of nodes.old.items) (at.members_at slot inside raws.now).made) }
+    ensures faults { OnOk result (work.new.faults.items ≡ work.old.faults.items ++ (at.members_at slot.now inside.now raws.now).faults) }
+    ensures made { OnOk result (plans_of nodes.new.items ≡ join (plans_of nodes.old.items)
+        (at.members_at slot.now inside.now raws.now).made) }
 {
     for raw in raws {
         add_member(alloc, work, nodes, slot, inside, raw)?;
@@ -761,16 +759,16 @@ pub fn terms(
     alloc: Global,
     work: &mut Work,
     nodes: &mut Vec<Node>,
-    inside: Around,
+    inside: &Around,
     raws: &[Raw],
 ) -> Result<(), AllocError>
-    ensures faults { OnOk result (work.new.faults.items ≡ work.old.faults.items ++ (at.terms_at inside None raws.now).faults) }
-    ensures made { OnOk result (plans_of nodes.new.items ≡ join (plans_of nodes.old.items) (at.terms_at inside None raws.now).made) }
+    ensures faults { OnOk result (work.new.faults.items ≡ work.old.faults.items ++ (at.terms_at inside.now None raws.now).faults) }
+    ensures made { OnOk result (plans_of nodes.new.items ≡ join (plans_of nodes.old.items) (at.terms_at inside.now None raws.now).made) }
 {
     nodes.reserve_exact(count_members(raws))?;
     let mut run = None;
     for raw in raws {
-        add_member(alloc, work, nodes, Slot::Term { run }, inside, raw)?;
+        add_member(alloc, work, nodes, &Slot::Term { run }, inside, raw)?;
         run = run_after(run, raw);
     }
     Ok(())
@@ -783,16 +781,16 @@ fn cases(
     alloc: Global,
     work: &mut Work,
     nodes: &mut Vec<Node>,
-    inside: Around,
+    inside: &Around,
     raws: &[Raw],
 ) -> Result<(), AllocError>
-    ensures faults { OnOk result (work.new.faults.items ≡ work.old.faults.items ++ (at.cases_at inside false raws.now).faults) }
-    ensures made { OnOk result (plans_of nodes.new.items ≡ join (plans_of nodes.old.items) (at.cases_at inside false raws.now).made) }
+    ensures faults { OnOk result (work.new.faults.items ≡ work.old.faults.items ++ (at.cases_at inside.now false raws.now).faults) }
+    ensures made { OnOk result (plans_of nodes.new.items ≡ join (plans_of nodes.old.items) (at.cases_at inside.now false raws.now).made) }
 {
     nodes.reserve_exact(count_members(raws))?;
     let mut defaulted = false;
     for raw in raws {
-        add_member(alloc, work, nodes, Slot::Branch { defaulted }, inside, raw)?;
+        add_member(alloc, work, nodes, &Slot::Branch { defaulted }, inside, raw)?;
         defaulted = default_after(defaulted, raw);
     }
     Ok(())

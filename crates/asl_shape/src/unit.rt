@@ -119,7 +119,7 @@ fn block_terms(
         (plans_of list.new.items ≡ join (plans_of list.old.items) (spec.terms_in (plans_of args.now) body.now).made) }
 {
     let around = outside(Width::of_revision(revision_in(args)));
-    Ok(terms(alloc, work, list, around, body)?)
+    Ok(terms(alloc, work, list, &around, body)?)
 }
 
 // The arguments of a block, and its terms.
@@ -140,7 +140,15 @@ fn inside(
         (plans_of list.new.items ≡ join (plans_of list.old.items) (spec.terms_in (spec.args_in place args.now).made body.now).made) }
 {
     let around = outside(Width::W64);
-    arguments(alloc, work, nodes, block_parameters(), around, place, args)?;
+    arguments(
+        alloc,
+        work,
+        nodes,
+        block_parameters(),
+        &around,
+        &place,
+        args,
+    )?;
     Ok(block_terms(alloc, work, list, nodes, body)?)
 }
 

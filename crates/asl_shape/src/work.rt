@@ -1,12 +1,14 @@
 //! The errors that are found on the way.
-ghost use Rattle.std.specs.Prelude.{◌≡◌, ◌++◌, false, OnOk, IfOk};
+ghost use Rattle.std.specs.Prelude.{◌≡◌, ◌<◌, ◌++◌, false, vec_len, OnOk, IfOk};
 ghost use Rattle.asl_shape.specs.Shapes as spec;
-ghost use Rattle.asl_shape.specs.Plans.{Plan, plan_of, plans_of, constant_of};
+ghost use Rattle.asl_shape.specs.Plans.{Plan, plan_of, plans_of, constant_of, last_plan, with_last};
 ghost use Rattle.asl_shape.specs.Plans.{is_omitted as is_left_out};
 ghost use Rattle.acpi_values.specs.declared.width.Width.{Width};
 ghost use Rattle.iasl_messages.specs.declared.place.Place.{Place};
 ghost use Rattle.asl_tree.specs.Names.{is_searched};
 
+use crate::nodes::{last_term, put_last};
+use acpi_values::integer::wrap;
 use acpi_values::width::Width;
 use asl_tree::constant::{NoConstant, constant};
 use asl_tree::path::Path;
@@ -236,12 +238,15 @@ pub fn is_omitted(term: &Term) -> bool
     }
 }
 
-/// The value of a constant argument at a width.
-#[tactic(auto, using(crate::proofs::Constants::constant_is))]
+/// The value of a constant argument at a width. Most are numbers, which want no further look.
+#[tactic(auto, using(crate::proofs::Constants::constant_is), unfolding(crate::specs::Plans::plan_of))]
 pub fn value_of(width: Width, term: &Term) -> Result<u64, NoConstant>
     ensures { result ≡ constant_of width (plan_of term.now) }
 {
-    constant(term, width)
+    match term {
+        Term::Integer(number) => Ok(wrap(width, *number)),
+        _ => constant(term, width),
+    }
 }
 
 // What comes of an expression where a constant may be asked for. This is the table's width.
@@ -283,24 +288,31 @@ fn outcome_of(width: Width, slot: Slot, term: &Term) -> Outcome
     }
 }
 
-/// An expression where a constant may be asked for: its value, if it is one. This is the table's width.
-#[tactic(auto, using(crate::proofs::Terms::nothing_more), unfolding(crate::specs::Plans::plan_of))]
+/// The last node, where a constant may be asked for: its value, if it is one. This is the table's width.
 pub fn evaluate(
     alloc: Global,
     work: &mut Work,
     width: Width,
     slot: Slot,
     place: Place,
-    term: Term,
-) -> Result<Term, AllocError>
+    nodes: &mut Vec<Node>,
+) -> Result<(), AllocError>
+    requires { 0 < vec_len nodes.old }
     ensures faults { OnOk result
-        (work.new.faults.items ≡ work.old.faults.items ++ (spec.evaluated width slot place (plan_of term)).faults) }
-    ensures made { IfOk result (λ made. plan_of made ≡ (spec.evaluated width slot place (plan_of term)).made) }
+        (work.new.faults.items ≡ work.old.faults.items ++ (spec.evaluated width slot place (last_plan (plans_of nodes.old.items))).faults) }
+    ensures made { OnOk result (plans_of nodes.new.items ≡ with_last
+        (spec.evaluated width slot place (last_plan (plans_of nodes.old.items))).made (plans_of nodes.old.items)) }
 {
-    match outcome_of(width, slot, &term) {
-        Outcome::Stays => Ok(term),
-        Outcome::Number(number) => Ok(Term::Integer(number)),
-        Outcome::Fault(number) => refuse(alloc, work, number, place),
+    match outcome_of(width, slot, last_term(nodes)) {
+        Outcome::Stays => Ok(()),
+        Outcome::Number(number) => {
+            put_last(nodes, Term::Integer(number));
+            Ok(())
+        }
+        Outcome::Fault(number) => {
+            put_last(nodes, Term::Omitted);
+            tell(alloc, work, number, place)
+        }
     }
 }
 

@@ -1,18 +1,19 @@
 use Rattle.std.proofs.Common.{◌≡◌, ◌+◌, ◌*◌, ◌++◌, drop, None, false}
+use Rattle.asl_words.specs.declared.operator.Slot.TheVariants as slot
 use Rattle.asl_shape.specs.Plans.{plans_of, join}
 use Rattle.asl_shape.specs.Sizes.{size_at, sizes_at, size_in_at}
 use Rattle.asl_shape.specs.Shapes.{begin}
 use Rattle.asl_shape.specs.AtRaw.{operands_at, arguments_in_at, members_at, terms_at, elements_at, cases_at}
 use Rattle.asl_shape.proofs.tree.+shape.Given as goal
 
-abbrev pub decreases-shape : goal.decreases-shape
-decreases-shape l = 16 * (size_at l.raw.now) + 2
-
-abbrev pub decreases-bare : goal.decreases-bare
-decreases-bare l = 16 * (size_at l.raw.now) + 1
+abbrev pub decreases-add_bare : goal.decreases-add_bare
+decreases-add_bare l = 16 * (size_at l.raw.now)
 
 abbrev pub decreases-add : goal.decreases-add
-decreases-add l = 16 * (size_at l.raw.now) + 3
+decreases-add l = 16 * (size_at l.raw.now) + 1
+
+abbrev pub decreases-read_term : goal.decreases-read_term
+decreases-read_term l = 16 * (size_at l.raw.now) + 2
 
 abbrev pub decreases-operands : goal.decreases-operands
 decreases-operands l = 16 * (sizes_at l.args.now) + 5
@@ -32,25 +33,25 @@ decreases-elements l = 16 * (sizes_at l.raws.now) + 6
 abbrev pub decreases-contents : goal.decreases-contents
 decreases-contents l = 16 * (size_in_at l.raws.now) + 7
 
-abbrev pub decreases-call : goal.decreases-call
-decreases-call l = 16 * (size_in_at l.args.now) + 8
+abbrev pub decreases-add_call : goal.decreases-add_call
+decreases-add_call l = 16 * (size_in_at l.args.now) + 8
 
-abbrev pub decreases-form : goal.decreases-form
-decreases-form l = 16 * (sizes_at l.args.now + size_in_at l.body.now) + 8
+abbrev pub decreases-add_form : goal.decreases-add_form
+decreases-add_form l = 16 * (sizes_at l.args.now + size_in_at l.body.now) + 8
 
-abbrev pub decreases-symbol : goal.decreases-symbol
-decreases-symbol l = 16 * sizes_at l.args.now + 9
+abbrev pub decreases-add_symbol : goal.decreases-add_symbol
+decreases-add_symbol l = 16 * sizes_at l.args.now + 9
 
-abbrev pub decreases-read : goal.decreases-read
-decreases-read l = 16 * (size_in_at l.args.now + size_in_at l.body.now) + 9
+abbrev pub decreases-add_reading : goal.decreases-add_reading
+decreases-add_reading l = 16 * (size_in_at l.args.now + size_in_at l.body.now) + 9
 
-abbrev pub decreases-item : goal.decreases-item
-decreases-item l = 16 * (size_in_at l.args.now + size_in_at l.body.now) + 10
+abbrev pub decreases-add_item : goal.decreases-add_item
+decreases-add_item l = 16 * (size_in_at l.args.now + size_in_at l.body.now) + 10
 
 abbrev pub invariant-operands-loop-raw : goal.invariant-operands-loop-raw
 invariant-operands-loop-raw l = record {
-  faults : l.work.faults.items ++ (operands_at l.next l.inside (drop l.raw-index l.args)).faults ≡ l.fn.work.faults.items ++ (operands_at l.fn.slot l.inside l.args).faults;
-  made : join (plans_of l.nodes.items) (operands_at l.next l.inside (drop l.raw-index l.args)).made ≡ join (plans_of l.fn.nodes.items) (operands_at l.fn.slot l.inside l.args).made;
+  faults : l.work.faults.items ++ (operands_at slot.Expression l.inside (drop l.raw-index l.args)).faults ≡ l.fn.work.faults.items ++ (operands_at slot.Expression l.inside l.args).faults;
+  made : join (plans_of l.nodes.items) (operands_at slot.Expression l.inside (drop l.raw-index l.args)).made ≡ join (plans_of l.fn.nodes.items) (operands_at slot.Expression l.inside l.args).made;
 }
 
 abbrev pub invariant-members-loop-raw : goal.invariant-members-loop-raw
@@ -77,8 +78,8 @@ decreases-add_argument l = 16 * sizes_at l.args.now + 4
 abbrev pub decreases-add_member : goal.decreases-add_member
 decreases-add_member l = 16 * size_at l.raw.now + 4
 
-abbrev pub decreases-element : goal.decreases-element
-decreases-element l = 16 * (size_in_at l.args.now) + 8
+abbrev pub decreases-add_element : goal.decreases-add_element
+decreases-add_element l = 16 * (size_in_at l.args.now) + 8
 
 abbrev pub decreases-field_list : goal.decreases-field_list
 decreases-field_list l = 16 * (sizes_at l.raws.now) + 6
@@ -101,14 +102,14 @@ invariant-field_elements-loop-raw l = record {
   made : join (plans_of l.nodes.items) (elements_at l.due l.unit l.inside (drop l.raw-index l.raws)).made ≡ join (plans_of l.fn.nodes.items) (elements_at begin None l.inside l.raws).made;
 }
 
-abbrev pub decreases-text_macro : goal.decreases-text_macro
-decreases-text_macro l = 16 * (size_in_at l.args.now) + 8
+abbrev pub decreases-add_macro : goal.decreases-add_macro
+decreases-add_macro l = 16 * (size_in_at l.args.now) + 8
 
-abbrev pub decreases-template : goal.decreases-template
-decreases-template l = 16 * (size_in_at l.body.now) + 8
+abbrev pub decreases-add_template : goal.decreases-add_template
+decreases-add_template l = 16 * (size_in_at l.body.now) + 8
 
-abbrev pub decreases-descriptor : goal.decreases-descriptor
-decreases-descriptor l = 16 * (size_in_at l.args.now + size_in_at l.body.now) + 8
+abbrev pub decreases-add_descriptor : goal.decreases-add_descriptor
+decreases-add_descriptor l = 16 * (size_in_at l.args.now + size_in_at l.body.now) + 8
 
 abbrev pub decreases-cases : goal.decreases-cases
 decreases-cases l = 16 * (sizes_at l.raws.now) + 5
