@@ -4,8 +4,9 @@
     compare/descriptors.py IASL COUNT SEED
 
 Each of COUNT sources has a template of random descriptors, most of them with names, and buffer fields over it whose indexes are
-fields of these. The bytes must be those of ACPICA's iasl, but for the creator's two fields and the checksum, which is checked by
-itself. It needs acpica-tools, and is no part of the tests.
+fields of these. A fifth of them has instead an object of the name of a descriptor in the scope around, which is used beside the
+descriptor and where a search does not meet it, and is compiled with names shortened. The bytes must be those of ACPICA's iasl,
+but for the creator's two fields and the checksum, which is checked by itself. It needs acpica-tools, and is no part of the tests.
 """
 
 import random
@@ -88,15 +89,28 @@ def source():
     return 'DefinitionBlock ("", "SSDT", 2, "OEMX00", "TABLE001", 1)\n{\n' + "".join(terms) + "}\n"
 
 
+def hidden():
+    """A name that a descriptor hides in one Device and not in another."""
+    used = set()
+    name, buffer, first, second, method = (segment(used)[0] for _ in range(5))
+    use = f"Method ({method}) {{ Return (\\_SB.{name}) }}"
+    template = f"Name ({buffer}, ResourceTemplate () {{ {named(random.choice(list(FIELDS)), name)} }})"
+    devices = [f"        Device ({first}) {{ {template} {use} }}\n", f"        Device ({second}) {{ {use} }}\n"]
+    random.shuffle(devices)
+    terms = f"    Scope (_SB)\n    {{\n        Name ({name}, 5)\n{''.join(devices)}    }}\n"
+    return 'DefinitionBlock ("", "DSDT", 2, "OEMX00", "TABLE001", 1)\n{\n' + terms + "}\n"
+
+
 def main():
     iasl, count, seed = str(Path(sys.argv[1]).resolve()), int(sys.argv[2]), int(sys.argv[3])
     random.seed(seed)
     with tempfile.TemporaryDirectory() as name:
         folder = Path(name)
         for run in range(count):
-            text = source()
-            ours = compiled(folder / "ours", [iasl] + PLAIN, text)
-            theirs = compiled(folder / "theirs", THEIRS, text)
+            shortened = random.random() < 0.2
+            text = hidden() if shortened else source()
+            ours = compiled(folder / "ours", [iasl] + [word for word in PLAIN if not shortened or word != "-on"], text)
+            theirs = compiled(folder / "theirs", [word for word in THEIRS if not shortened or word != "-on"], text)
             if without_creator(ours) != without_creator(theirs):
                 sys.exit(f"source {run}: the bytes differ:\n{text}\n{ours.hex()}\n{theirs.hex()}")
     print(f"{count} sources: the bytes are the same")

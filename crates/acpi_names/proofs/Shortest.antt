@@ -1,14 +1,14 @@
 -- A name in its shortest spelling has one candidate, and it is the path that the written name denotes.
 use Rattle.std.proofs.Common.{◌≡◌, Bool, true, false, List, [], ◌∷◌, ◌++◌, Option, Some, None, refl, sym, ap, ◌∙◌, subst, arith}
-use Rattle.std.specs.Prelude.{not, nat_lt, is_some, if◌then◌else◌}
+use Rattle.std.specs.Prelude.{not, ◌||◌, nat_lt, is_some, if◌then◌else◌}
 use Rattle.std.specs.List.{filter}
 use Rattle.acpi_values.specs.Paths.{NameSeg, AbsolutePath}
 use Rattle.acpi_state.specs.Outcomes.{choose}
 use Rattle.acpi_state.proofs.Lookups.{is_same_path-true}
 use Rattle.asl_tree.specs.declared.path.Path.{Path as Name}
 use Rattle.asl_tree.specs.Names.{declared_path, enclosing, single_segment, search_path, candidates, first_of, denoted, absolute, is_searched, spelled_element, element_path}
-use Rattle.asl_meaning.proofs.Searches.{below_reverse, first_is_known, absolute_candidates, spelled_denotes}
-use Rattle.acpi_names.specs.Shortest.{name_length, shortest, last_alone, upward, unsearched, is_only, leads_to, short_use, short_element, spelled_use, spelled_item}
+use Rattle.asl_meaning.proofs.Searches.{below_reverse, first_is_known, absolute_candidates}
+use Rattle.acpi_names.specs.Shortest.{name_length, shortest, last_alone, upward, unsearched, is_only, leads_to, short_element, use_of, spelled_item, met, spelled_use}
 
 -- what holds of each of some names
 abbrev pub Each : (Name → Type 0) → List Name → Type 0
@@ -74,14 +74,14 @@ module _ (has : AbsolutePath → Bool) where
           by_leads true e all = (only_is path (candidates has (search_path name scope)) e, all)
           by_leads false e all = all
 
-  -- the spelled name denotes the same
-  pub use_denotes : (shorten : Bool) (name : Name) (scope : AbsolutePath) → denoted has (spelled_use has shorten name scope) scope ≡ denoted has name scope
-  use_denotes false name scope = spelled_denotes has name scope
-  use_denotes true name scope = by_denoted (denoted has name scope) refl
+  -- so does a used name of a path
+  pub use_leads : (shorten : Bool) (name : Name) (path scope : AbsolutePath) → has path ≡ true → candidates has (search_path (use_of has shorten name path scope) scope) ≡ path ∷ []
+  use_leads true name path scope there = short_leads path scope (last_alone path ++ unsearched path scope) there
+  use_leads false name path scope there = by_leads (leads_to has path scope name) refl
     where
-      by_denoted : (o : Option AbsolutePath) → denoted has name scope ≡ o → denoted has (choose o name (λ path. short_use has path scope)) scope ≡ o
-      by_denoted None e = e
-      by_denoted (Some path) e = ap first_of (short_leads path scope (last_alone path ++ unsearched path scope) (denoted_known name scope path e))
+      by_leads : (c : Bool) → leads_to has path scope name ≡ c → candidates has (search_path (if c then name else absolute path) scope) ≡ path ∷ []
+      by_leads true e = only_is path (candidates has (search_path name scope)) e
+      by_leads false e = absolute_candidates has path scope there
 
   -- no name in a Package is searched
   pub short_element_placed : (path scope : AbsolutePath) → is_searched (short_element has path scope) ≡ false
@@ -134,3 +134,47 @@ module _ (has : AbsolutePath → Bool) where
       by_searched : (c : Bool) → is_searched name ≡ c → element_path has (if c then spelled_element has name scope else if shorten then choose (denoted has name scope) name (λ path. short_element has path scope) else name) scope ≡ element_path has name scope
       by_searched true s = rooted (is_searched name)
       by_searched false s = by_shorten shorten s
+
+-- ---- what is met beside what is named
+module _ (also has : AbsolutePath → Bool) where
+  -- where nothing is met, nothing is named
+  none_named : (paths : List AbsolutePath) → candidates (met also has) paths ≡ [] → candidates has paths ≡ []
+  none_named [] e = refl
+  none_named (p ∷ ps) e = by_has (has p) (also p) e (none_named ps)
+    where
+      by_has : (c a : Bool) → (if c || a then p ∷ candidates (met also has) ps else candidates (met also has) ps) ≡ [] → (candidates (met also has) ps ≡ [] → candidates has ps ≡ []) → (if c then p ∷ candidates has ps else candidates has ps) ≡ []
+      by_has true a e go = absurd (grind arith)
+      by_has false true e go = absurd (grind arith)
+      by_has false false e go = go e
+
+  abbrev rest_of : List AbsolutePath → List AbsolutePath
+  rest_of [] = []
+  rest_of (path ∷ paths) = paths
+
+  -- where a named path is all that is met, it is all that is named
+  pub met_alone : (path : AbsolutePath) (paths : List AbsolutePath) → has path ≡ true → candidates (met also has) paths ≡ path ∷ [] → candidates has paths ≡ path ∷ []
+  met_alone path [] there e = absurd (grind arith)
+  met_alone path (p ∷ ps) there e = by_has (has p) refl (also p) e (met_alone path ps there)
+    where
+      by_has : (c : Bool) → has p ≡ c → (a : Bool) → (if c || a then p ∷ candidates (met also has) ps else candidates (met also has) ps) ≡ path ∷ [] → (candidates (met also has) ps ≡ path ∷ [] → candidates has ps ≡ path ∷ [])
+          → (if c then p ∷ candidates has ps else candidates has ps) ≡ path ∷ []
+      by_has true h a e go = ap (λ q. head_or p q ∷ candidates has ps) e ∙ ap (λ q. path ∷ q) (none_named ps (ap rest_of e))
+      by_has false h true e go = absurd (let x = sym h ∙ ap (λ q. has (head_or p q)) e ∙ there in grind arith)
+      by_has false h false e go = go e
+
+  met_named : (path : AbsolutePath) → has path ≡ true → met also has path ≡ true
+  met_named path there = ap (λ c. c || also path) there
+
+  -- the path that a used name denotes is the only one that the spelled name may denote
+  pub use_alone : (shorten : Bool) (name : Name) (scope path : AbsolutePath) → denoted has name scope ≡ Some path → candidates has (search_path (use_of (met also has) shorten name path scope) scope) ≡ path ∷ []
+  use_alone shorten name scope path e =
+      let there = denoted_known has name scope path e in
+      met_alone path (search_path (use_of (met also has) shorten name path scope) scope) there (use_leads (met also has) shorten name path scope (met_named path there))
+
+  -- the spelled name denotes the same
+  pub use_denotes : (shorten : Bool) (name : Name) (scope : AbsolutePath) → denoted has (spelled_use also has shorten name scope) scope ≡ denoted has name scope
+  use_denotes shorten name scope = by_denoted (denoted has name scope) refl
+    where
+      by_denoted : (o : Option AbsolutePath) → denoted has name scope ≡ o → denoted has (choose o name (λ path. use_of (met also has) shorten name path scope)) scope ≡ o
+      by_denoted None e = e
+      by_denoted (Some path) e = ap first_of (use_alone shorten name scope path e)

@@ -1,10 +1,10 @@
 -- The shortest spelling of a used name (ACPI Specification 6.4, 5.3 and 20.2.2).
-use Rattle.std.specs.Prelude.{ℕ, zero, suc, ◌+◌, ◌-◌, ◌*◌, Bool, true, false, not, nat_lt, if◌then◌else◌, List, [], ◌∷◌, ◌++◌, length}
+use Rattle.std.specs.Prelude.{ℕ, zero, suc, ◌+◌, ◌-◌, ◌*◌, Bool, true, false, not, ◌||◌, nat_lt, if◌then◌else◌, List, [], ◌∷◌, ◌++◌, length}
 use Rattle.std.specs.List.{filter}
 use Rattle.acpi_values.specs.Paths.{NameSeg, AbsolutePath, is_same_path}
 use Rattle.acpi_state.specs.Outcomes.{choose}
 use Rattle.asl_tree.specs.declared.path.Path.{Path}
-use Rattle.asl_tree.specs.Names.{search_path, candidates, denoted, absolute, is_searched, spelled_name, spelled_element}
+use Rattle.asl_tree.specs.Names.{search_path, candidates, denoted, absolute, is_searched, spelled_element}
 
 -- how many bytes so many segments take: one segment stands alone, and another number of them is told first
 abbrev pub segments_length : ℕ → ℕ
@@ -54,10 +54,11 @@ module _ (has : AbsolutePath → Bool) where
   abbrev pub short_element : AbsolutePath → AbsolutePath → Path
   short_element path scope = shortest (absolute path) (filter (leads_to path scope) (unsearched path scope))
 
-  -- a used name as it stands in the bytes; one that denotes nothing stays as it is written
-  abbrev pub spelled_use : Bool → Path → AbsolutePath → Path
-  spelled_use true name scope = choose (denoted has name scope) name (λ path. short_use path scope)
-  spelled_use false name scope = spelled_name has name scope
+  -- a used name of a path as it stands in the bytes: in its shortest spelling where that is asked for; otherwise as it is written, if
+  -- the path is its only candidate, and if not, from the root
+  abbrev pub use_of : Bool → Path → AbsolutePath → AbsolutePath → Path
+  use_of true name path scope = short_use path scope
+  use_of false name path scope = if leads_to path scope name then name else absolute path
 
   -- a name in a Package as it stands in the bytes
   abbrev pub spelled_item : Bool → Path → AbsolutePath → Path
@@ -65,3 +66,13 @@ module _ (has : AbsolutePath → Bool) where
       if is_searched name then spelled_element has name scope
       else if shorten then choose (denoted has name scope) name (λ path. short_element path scope)
       else name
+
+-- what may stand in the way of a name: what has a name, and what `also` has one though no object stands there, as resource
+-- descriptors do
+abbrev pub met : (also has : AbsolutePath → Bool) → AbsolutePath → Bool
+met also has path = has path || also path
+
+-- a used name as it stands in the bytes: what it denotes, by what has a name, is the only candidate among all that may stand in its
+-- way; a name that denotes nothing stays as it is written
+abbrev pub spelled_use : (also has : AbsolutePath → Bool) → Bool → Path → AbsolutePath → Path
+spelled_use also has shorten name scope = choose (denoted has name scope) name (λ path. use_of (met also has) shorten name path scope)

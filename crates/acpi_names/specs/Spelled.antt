@@ -1,9 +1,9 @@
 -- A program with its names as they stand in the bytes, shortened or not.
-use Rattle.std.specs.Prelude.{Bool, List, [], ◌∷◌}
+use Rattle.std.specs.Prelude.{Bool, false, List, [], ◌∷◌}
 use Rattle.acpi_values.specs.Paths.{AbsolutePath}
 use Rattle.acpi_state.specs.Outcomes.{choose}
 use Rattle.asl_tree.specs.declared.path.Path.{Path}
-use Rattle.asl_tree.specs.Names.{declared_path, denoted, spelled_name}
+use Rattle.asl_tree.specs.Names.{declared_path, denoted}
 use Rattle.asl_meaning.specs.Declarations.{ExternalType}
 use Rattle.acpi_names.specs.Shortest.{spelled_use, spelled_item}
 use Rattle.asl_tree.specs.FieldItems.{FieldItem, ConnectionItem, Connected, ToName, ToBytes}
@@ -22,9 +22,10 @@ module _ (shorten : Bool) (has : AbsolutePath → Bool) where
   element_spelled (Use at name) other scope = Use at (spelled_item has shorten name scope)
   element_spelled t other scope = other
 
+module _ (shorten : Bool) (also has : AbsolutePath → Bool) where
   -- what the units of a field are connected to
   abbrev pub connected_spelled : Connected → AbsolutePath → Connected
-  connected_spelled (ToName at name) scope = ToName at (spelled_use has shorten name scope)
+  connected_spelled (ToName at name) scope = ToName at (spelled_use also has shorten name scope)
   connected_spelled (ToBytes bytes) scope = ToBytes bytes
 
   abbrev pub item_spelled : FieldItem UnitName → AbsolutePath → FieldItem UnitName
@@ -35,13 +36,13 @@ module _ (shorten : Bool) (has : AbsolutePath → Bool) where
   items_spelled [] scope = []
   items_spelled (item ∷ items) scope = item_spelled item scope ∷ items_spelled items scope
 
-module _ (shorten : Bool) (has : AbsolutePath → Bool) (says : AbsolutePath → ExternalType → ExternalType) where
+module _ (shorten : Bool) (also has : AbsolutePath → Bool) (says : AbsolutePath → ExternalType → ExternalType) where
   -- declared names stay as they are written, the name of a Scope is never shortened, and an External says its type and
   -- its arity
   abbrev mutual
     pub spelled : Tree → AbsolutePath → Tree
-    spelled (Use at name) scope = Use at (spelled_use has shorten name scope)
-    spelled (Call at name args) scope = Call at (spelled_use has shorten name scope) (spelled_all args scope)
+    spelled (Use at name) scope = Use at (spelled_use also has shorten name scope)
+    spelled (Call at name args) scope = Call at (spelled_use also has shorten name scope) (spelled_all args scope)
     spelled (Apply op args targets) scope = Apply op (spelled_all args scope) (spelled_all targets scope)
     spelled (Operated op args) scope = Operated op (spelled_all args scope)
     spelled (Assigned target value) scope = Assigned (spelled target scope) (spelled value scope)
@@ -60,25 +61,26 @@ module _ (shorten : Bool) (has : AbsolutePath → Bool) (says : AbsolutePath →
     spelled (Case value body) scope = Case (spelled value scope) (spelled_all body scope)
     spelled (Default body) scope = Default (spelled_all body scope)
     spelled (OperationRegion at name space args) scope = OperationRegion at name space (spelled_all args scope)
-    spelled (Field here from region flags items) scope = Field here from (spelled_use has shorten region scope) flags
-        (items_spelled shorten has items scope)
+    spelled (Field here from region flags items) scope = Field here from (spelled_use also has shorten region scope) flags
+        (items_spelled shorten also has items scope)
     spelled (IndexField here from index to register flags items) scope =
-        IndexField here from (spelled_use has shorten index scope) to (spelled_use has shorten register scope) flags
-        (items_spelled shorten has items scope)
+        IndexField here from (spelled_use also has shorten index scope) to (spelled_use also has shorten register scope) flags
+        (items_spelled shorten also has items scope)
     spelled (BankField here from region to bank value flags items) scope =
-        BankField here from (spelled_use has shorten region scope) to (spelled_use has shorten bank scope) (spelled value scope) flags
-        (items_spelled shorten has items scope)
+        BankField here from (spelled_use also has shorten region scope) to (spelled_use also has shorten bank scope) (spelled value scope)
+        flags (items_spelled shorten also has items scope)
     spelled (CreateField form args at name) scope = CreateField form (spelled_all args scope) at name
     spelled (Return value) scope = Return (spelled value scope)
     spelled (Name at name value) scope = Name at name (spelled value scope)
-    spelled (Alias from source at name) scope = Alias from (spelled_use has shorten source scope) at name
+    spelled (Alias from source at name) scope = Alias from (spelled_use also has shorten source scope) at name
     spelled (External here at name type parameters) scope =
         let e = says (declared_path name scope) (record { type = type; parameters = parameters }) in
         External here at name e.type e.parameters
     spelled (Method at name flags body) scope = Method at name flags (spelled_all body (declared_path name scope))
     spelled (Container' kind at name body) scope = Container' kind at name (spelled_all body (declared_path name scope))
-    spelled (Scope here at name body) scope = Scope here at (spelled_name has name scope) (spelled_all body (inner_scope has name scope))
-    spelled (Item item) scope = Item (item_spelled shorten has item scope)
+    spelled (Scope here at name body) scope = Scope here at (spelled_use also has false name scope)
+        (spelled_all body (inner_scope has name scope))
+    spelled (Item item) scope = Item (item_spelled shorten also has item scope)
     spelled term scope = term
 
     pub spelled_all : Trees → AbsolutePath → Trees

@@ -12,17 +12,18 @@ ghost use Rattle.acpi_names.specs.Shortest.{spelled_use};
 
 /// Whatever names stand at the time, as long as each is declared, external or of the root: the search for what is
 /// written of a used name finds the path that the name denotes where something stands there, and nothing where nothing
-/// does. For a name that denotes nothing it finds nothing (ACPI Specification 6.4, 5.3).
+/// does. For a name that denotes nothing it finds nothing (ACPI Specification 6.4, 5.3). The spelling may keep out of the
+/// way of any other paths besides, `also`.
 pub fn searches_find_what_is_denoted()
-    ensures there { (shorten : Bool) (program : Trees) (names : Names) → AreNamesOf program names
+    ensures there { (also : AbsolutePath → Bool) (shorten : Bool) (program : Trees) (names : Names) → AreNamesOf program names
         → (name : Path) (scope path : AbsolutePath) → denoted (is_named (declarations program)) name scope ≡ Some path
         → is_some (object_at names path) ≡ true
-        → first_there names (search_path (spelled_use (is_named (declarations program)) shorten name scope) scope) ≡ Some path }
-    ensures absent { (shorten : Bool) (program : Trees) (names : Names) → AreNamesOf program names
+        → first_there names (search_path (spelled_use also (is_named (declarations program)) shorten name scope) scope) ≡ Some path }
+    ensures absent { (also : AbsolutePath → Bool) (shorten : Bool) (program : Trees) (names : Names) → AreNamesOf program names
         → (name : Path) (scope path : AbsolutePath)
         → denoted (is_named (declarations program)) name scope ≡ Some path → object_at names path ≡ None
-        → first_there names (search_path (spelled_use (is_named (declarations program)) shorten name scope) scope) ≡ None }
-    ensures nothing { (shorten : Bool) (program : Trees) (names : Names) → AreNamesOf program names
+        → first_there names (search_path (spelled_use also (is_named (declarations program)) shorten name scope) scope) ≡ None }
+    ensures nothing { (also : AbsolutePath → Bool) (shorten : Bool) (program : Trees) (names : Names) → AreNamesOf program names
         → (name : Path) (scope : AbsolutePath) → denoted (is_named (declarations program)) name scope ≡ None
-        → first_there names (search_path (spelled_use (is_named (declarations program)) shorten name scope) scope) ≡ None }
+        → first_there names (search_path (spelled_use also (is_named (declarations program)) shorten name scope) scope) ≡ None }
 {}

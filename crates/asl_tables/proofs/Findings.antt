@@ -1,9 +1,12 @@
 -- What is found of a block's terms is what the block comes to.
-use Rattle.std.proofs.Common.{◌≡◌, ◌<◌, ◌^◌, List, [], ◌∷◌, Result, refl, sym, ap, ◌∙◌, subst, arith}
+use Rattle.std.proofs.Common.{◌≡◌, Bool, false, ◌<◌, ◌^◌, List, [], ◌∷◌, Result, refl, sym, ap, ◌∙◌, subst, arith}
 use Rattle.std.specs.Prelude.{IfOk, ◌++◌}
 use Rattle.std.specs.declared.alloc.AllocError.{AllocError}
 use Rattle.iasl_messages.specs.declared.message.Message.{Message}
 use Rattle.iasl_messages.specs.declared.place.Place.{Place}
+use Rattle.std.proofs.Math.Path.{fun_ext}
+use Rattle.acpi_values.specs.Paths.{AbsolutePath}
+use Rattle.acpi_names.specs.Paths.{is_named_in}
 use Rattle.asl_tree.specs.Tree.{Trees}
 use Rattle.asl_tree.specs.View.{trees_of}
 use Rattle.asl_tree.specs.declared.term.Node.{Node}
@@ -20,7 +23,7 @@ use Rattle.block_checks.specs.declared.names.Findings.{Findings}
 use Rattle.block_checks.specs.declared.names.Findings.TheVariants.{Right, Wrong}
 use Rattle.block_checks.specs.Findings.{IsNamed}
 use Rattle.block_checks.specs.Told.{with_others}
-use Rattle.block_checks.proofs.Classes.{both_none}
+use Rattle.block_checks.proofs.Classes.{both_none, some_behind}
 use Rattle.block_checks.proofs.Named.{both_first}
 use Rattle.asl_tables.proofs.Programs.{refused_is, right_comes}
 
@@ -29,13 +32,37 @@ abbrev pub told_by : Findings → List Message
 told_by (Right found) = []
 told_by (Wrong errors) = errors
 
-pub named_by : (names : Findings) (told : List Message) (terms : Trees) → IsNamed names told terms → IsNamed names (told_by names) terms
-named_by (Right found) told terms h = (h.0, refl)
-named_by (Wrong errors) told terms h = (refl, h.1)
+-- the paths that stand in the way of the names, by their flags
+abbrev pub beside_by : Findings → AbsolutePath → Bool
+beside_by (Right found) path = is_named_in found.index.paths found.described.items path
+beside_by (Wrong errors) path = false
 
-pub told_is : (names : Findings) (told : List Message) (terms : Trees) → IsNamed names told terms → told_by names ≡ told
-told_is (Right found) told terms h = sym h.1
-told_is (Wrong errors) told terms h = h.0
+pub named_by : (names : Findings) (told : List Message) (also : AbsolutePath → Bool) (terms : Trees) → IsNamed names told also terms → IsNamed names (told_by names) (beside_by names) terms
+named_by (Right found) told also terms h =
+    let are = h.0 in (
+      record { size = are.size; sized = are.sized; few = are.few; names = are.names; calls = are.calls; beside = λ path. refl; no_names = are.no_names; no_kinds = are.no_kinds },
+      refl,
+    )
+named_by (Wrong errors) told also terms h = (refl, h.1)
+
+-- where something is wrong, it does not matter what else a block would come to
+same_wrong : (messages : List Message) (it other : Outcome) → (messages ≡ [] → ⊥) → unless_wrong messages it ≡ unless_wrong messages other
+same_wrong [] it other some = absurd (some refl)
+same_wrong (m ∷ ms) it other some = refl
+
+-- a block comes to the same by its flags and by the paths that these say
+pub comes_beside : (names : Findings) (told : List Message) (also : AbsolutePath → Bool) (terms : Trees) (others few : List Message) (it : (AbsolutePath → Bool) → Outcome) → IsNamed names told also terms
+    → unless_wrong (with_others (told_by names) others) (unless_wrong few (it (beside_by names))) ≡ unless_wrong (with_others (told_by names) others) (unless_wrong few (it also))
+comes_beside (Right found) told also terms others few it h =
+    let are = h.0 in
+    let same : beside_by (Right found) ≡ also = fun_ext are.beside in
+    ap (λ beside. unless_wrong (with_others [] others) (unless_wrong few (it beside))) same
+comes_beside (Wrong errors) told also terms others few it h =
+    same_wrong (with_others errors others) (unless_wrong few (it (beside_by (Wrong errors)))) (unless_wrong few (it also)) (some_behind errors others h.1)
+
+pub told_is : (names : Findings) (told : List Message) (also : AbsolutePath → Bool) (terms : Trees) → IsNamed names told also terms → told_by names ≡ told
+told_is (Right found) told also terms h = sym h.1
+told_is (Wrong errors) told also terms h = h.0
 
 -- what is wrong, where something is
 pub found_wrong : (errors wrong few : List Message) → (errors ≡ wrong) × (errors ≡ [] → ⊥) → (errors ≡ first_told wrong few) × (errors ≡ [] → ⊥)
@@ -43,8 +70,8 @@ found_wrong errors [] few h = absurd (h.1 h.0)
 found_wrong errors (m ∷ ms) few h = h
 
 -- the names, or what cannot be lowered, where nothing is
-pub found_right : (r : Result Findings AllocError) (wrong few : List Message) (terms : Trees) → wrong ≡ [] → IfOk r (λ found. IsNamed found few terms) → IfOk r (λ found. IsNamed found (first_told wrong few) terms)
-found_right r wrong few terms e h = subst (λ (ws : List Message). IfOk r (λ found. IsNamed found (first_told ws few) terms)) (sym e) h
+pub found_right : (r : Result Findings AllocError) (wrong few : List Message) (also : AbsolutePath → Bool) (terms : Trees) → wrong ≡ [] → IfOk r (λ found. IsNamed found few also terms) → IfOk r (λ found. IsNamed found (first_told wrong few) also terms)
+found_right r wrong few also terms e h = subst (λ (ws : List Message). IfOk r (λ found. IsNamed found (first_told ws few) also terms)) (sym e) h
 
 -- a block in which something is wrong
 pub wrong_all : (errors wrong few : List Message) (it : Outcome) → errors ≡ first_told wrong few → (errors ≡ [] → ⊥) → Faulty errors ≡ unless_wrong wrong (unless_wrong few it)
@@ -57,10 +84,10 @@ right_all r [] few it e h = right_comes r few it e h
 right_all r (m ∷ ms) few it e h = absurd cc
 
 -- what is found of the nodes of a block
-pub found_of : (found : Findings) (wrong : List Message) (place : Place) (lent nodes : List Node) → lent ≡ nodes
-    → IsNamed found (first_told wrong (unlowered place (trees_of lent) (plans_of lent))) (trees_of lent) → IsNamed found (first_told wrong (unlowered place (trees_of nodes) (plans_of nodes))) (trees_of nodes)
-found_of found wrong place lent nodes e h =
-    subst (λ (ns : List Node). IsNamed found (first_told wrong (unlowered place (trees_of ns) (plans_of ns))) (trees_of ns)) e h
+pub found_of : (found : Findings) (wrong : List Message) (also : AbsolutePath → Bool) (place : Place) (lent nodes : List Node) → lent ≡ nodes
+    → IsNamed found (first_told wrong (unlowered place (trees_of lent) (plans_of lent))) also (trees_of lent) → IsNamed found (first_told wrong (unlowered place (trees_of nodes) (plans_of nodes))) also (trees_of nodes)
+found_of found wrong also place lent nodes e h =
+    subst (λ (ns : List Node). IsNamed found (first_told wrong (unlowered place (trees_of ns) (plans_of ns))) also (trees_of ns)) e h
 
 -- nothing else is wrong with a block in which nothing is
 pub none_else : (told others few : List Message) → first_told (with_others told others) few ≡ [] → others ≡ []

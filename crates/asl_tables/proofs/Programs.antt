@@ -1,5 +1,5 @@
 -- What a block, a program and a source come to.
-use Rattle.std.proofs.Common.{ℕ, ◌≡◌, ◌<◌, ◌≤◌, ◌^◌, length, List, [], ◌∷◌, Result, Ok, Err, refl, sym, ap, ◌∙◌, subst, arith}
+use Rattle.std.proofs.Common.{ℕ, Bool, ◌≡◌, ◌<◌, ◌≤◌, ◌^◌, length, List, [], ◌∷◌, Result, Ok, Err, refl, sym, ap, ◌∙◌, subst, arith}
 use Rattle.std.specs.Prelude.{IfOk, ◌++◌}
 use Rattle.std.specs.declared.alloc.AllocError.{AllocError}
 use Rattle.iasl_messages.specs.declared.message.Stage.{Stage}
@@ -7,6 +7,7 @@ use Rattle.iasl_messages.specs.declared.message.Stage.TheVariants.{Refused as Re
 use Rattle.asl_shape.specs.AtRaw.{Refuses as ShapeRefuses}
 use Rattle.std.proofs.lemmas.Nat.{mod_below}
 use Rattle.iasl_messages.specs.declared.message.Message.{Message}
+use Rattle.acpi_values.specs.Paths.{AbsolutePath}
 use Rattle.asl_tree.specs.declared.program.Block.{Block}
 use Rattle.asl_tree.specs.Tree.{Trees}
 use Rattle.aml_code.specs.Header.{HeaderFields, fields_of}
@@ -21,12 +22,12 @@ use Rattle.asl_shape.specs.Plans.{plans_of, plan_at, number_of}
 use Rattle.asl_shape.specs.Forms.{IsBlock, IsBlockOf, errors_at, args_of, block_place}
 use Rattle.asl_numbers.specs.Numbers.{numbered_all}
 use Rattle.program_shapes.specs.Kept.{IsKeptSource}
-use Rattle.program_shapes.specs.Sources.{plans_in, terms_in, statements_in, layouts_in, regions_in, types_in, sizes_in, values_in, notes_in, fields_in, width_in, IsRight}
+use Rattle.program_shapes.specs.Sources.{plans_in, terms_in, statements_in, layouts_in, regions_in, types_in, sizes_in, values_in, notes_in, fields_in, width_in, described_in, IsRight}
 use Rattle.iasl_messages.specs.declared.place.Place.{Place}
 use Rattle.iasl_messages.specs.declared.place.Line.{Line}
 use Rattle.source_pieces.specs.Places.{core_places}
 use Rattle.program_shapes.proofs.Blocks.{terms_as, room_in}
-use Rattle.descriptor_checks.specs.Resolved.{resolved_terms}
+use Rattle.descriptor_checks.specs.Resolved.{resolved_terms, described_paths}
 use Rattle.program_shapes.proofs.Headers.{HaveRoom}
 use Rattle.program_shapes.proofs.Tables.{terms_are_formed, terms_are_near, core_is_shaped}
 use Rattle.acpi_values.specs.Revisions.{width_of}
@@ -79,6 +80,11 @@ written_formed items block e h k = subst (λ ps. AreFormed (Unit {0}) AreNamed (
 pub same_told : (items : List Raw) (block : Block) (names : List Message) → IsBlockOf items block → names ≡ told_of_names (plans_of block.terms.items) → names ≡ told_in items
 unfolding IsBlockOf
 same_told items block names h e = e ∙ ap told_of_names h.terms
+
+-- the paths of its descriptors
+pub same_described : (items : List Raw) (block : Block) → IsBlockOf items block → described_paths (plans_of block.terms.items) ≡ described_in items
+unfolding IsBlockOf
+same_described items block h = ap described_paths h.terms
 
 -- so is what else is wrong with it, and the notes on its names
 pub same_others : (items : List Raw) (block : Block) (errors : List Message) → IsBlockOf items block → errors ≡ errors_beside_names (width_of block.revision) (plans_of block.terms.items) → errors ≡ others_in items
@@ -182,19 +188,19 @@ same_unlowered items block terms h is =
 -- and it comes to what its source comes to
 pub block_comes : (style : Style) (lines : List Line) (items : List Raw) (block : Block) (terms : Trees) (inner : List Place) (names statements few : List Message) (it : Outcome) → IsResolvedOf items block → terms ≡ numbered_all 0 (plans_of block.terms.items)
     → inner ≡ core_places (plans_of block.terms.items) → names ≡ told_in items → statements ≡ others_in items → few ≡ unlowered block.place terms (plans_of block.terms.items)
-    → it ≡ of_terms style lines block.place inner block.file (fields_of block) names statements few terms → it ≡ outcome_in style lines items
+    → it ≡ of_terms style lines block.place inner block.file (fields_of block) names statements few (described_in items) terms → it ≡ outcome_in style lines items
 block_comes style lines items block terms inner names statements few it h is places told are lacks comes =
     let at = block_place (writtens items) in
     let core = core_places (plans_in items) in
     comes
-    ∙ ap (λ p. of_terms style lines p inner block.file (fields_of block) names statements few terms) (same_place items block h)
-    ∙ ap (λ ps. of_terms style lines at ps block.file (fields_of block) names statements few terms) (places ∙ same_places items block h)
-    ∙ ap (λ own. of_terms style lines at core own (fields_of block) names statements few terms) (same_own items block h)
-    ∙ ap (λ f. of_terms style lines at core (own_in items) f names statements few terms) (same_fields items block h)
-    ∙ ap (λ ns. of_terms style lines at core (own_in items) (fields_in items) ns statements few terms) told
-    ∙ ap (λ ss. of_terms style lines at core (own_in items) (fields_in items) (told_in items) ss few terms) are
-    ∙ ap (λ fs. of_terms style lines at core (own_in items) (fields_in items) (told_in items) (others_in items) fs terms) (lacks ∙ same_unlowered items block terms h is)
-    ∙ ap (of_terms style lines at core (own_in items) (fields_in items) (told_in items) (others_in items) (unlowered_in items)) (same_terms items block terms h is)
+    ∙ ap (λ p. of_terms style lines p inner block.file (fields_of block) names statements few (described_in items) terms) (same_place items block h)
+    ∙ ap (λ ps. of_terms style lines at ps block.file (fields_of block) names statements few (described_in items) terms) (places ∙ same_places items block h)
+    ∙ ap (λ own. of_terms style lines at core own (fields_of block) names statements few (described_in items) terms) (same_own items block h)
+    ∙ ap (λ f. of_terms style lines at core (own_in items) f names statements few (described_in items) terms) (same_fields items block h)
+    ∙ ap (λ ns. of_terms style lines at core (own_in items) (fields_in items) ns statements few (described_in items) terms) told
+    ∙ ap (λ ss. of_terms style lines at core (own_in items) (fields_in items) (told_in items) ss few (described_in items) terms) are
+    ∙ ap (λ fs. of_terms style lines at core (own_in items) (fields_in items) (told_in items) (others_in items) fs (described_in items) terms) (lacks ∙ same_unlowered items block terms h is)
+    ∙ ap (of_terms style lines at core (own_in items) (fields_in items) (told_in items) (others_in items) (unlowered_in items) (described_in items)) (same_terms items block terms h is)
 
 -- a block in whose names nothing is wrong
 pub right_comes : (r : Result Outcome AllocError) (errors : List Message) (it : Outcome) → errors ≡ [] → IfOk r (λ made. made ≡ it) → IfOk r (λ made. made ≡ unless_wrong errors it)
@@ -202,18 +208,18 @@ right_comes (Ok made) errors it e h = right_is errors made it e h
 right_comes (Err error) errors it e h = tt
 
 -- what these parts of a block come to
-abbrev part_table : Style → List Line → Place → List Place → List ℕ → HeaderFields → Trees → Outcome
-part_table style lines place inner file fields terms = of_table place fields.signature file (table_with style fields terms) (its_pieces style lines (place ∷ inner) fields terms)
+abbrev part_table : Style → List Line → Place → List Place → List ℕ → HeaderFields → (also : AbsolutePath → Bool) → Trees → Outcome
+part_table style lines place inner file fields also terms = of_table place fields.signature file (table_with style fields also terms) (its_pieces style lines (place ∷ inner) fields also terms)
 
 -- a block with the place, the places, the file and the header of another
-pub like_another : (style : Style) (lines : List Line) (r : Result Outcome AllocError) (place other : Place) (inner places : List Place) (file own : List ℕ) (fields header : HeaderFields) (terms : Trees) → place ≡ other → inner ≡ places → file ≡ own → fields ≡ header
-    → IfOk r (λ it. it ≡ of_table place fields.signature file (table_with style fields terms) (its_pieces style lines (place ∷ inner) fields terms))
-    → IfOk r (λ it. it ≡ of_table other header.signature own (table_with style header terms) (its_pieces style lines (other ∷ places) header terms))
-like_another style lines r place other inner places file own fields header terms p i f h e =
-    subst (λ p. IfOk r (λ it. it ≡ part_table style lines p places own header terms)) p
-    (subst (λ i. IfOk r (λ it. it ≡ part_table style lines place i own header terms)) i
-    (subst (λ f. IfOk r (λ it. it ≡ part_table style lines place inner f header terms)) f
-    (subst (λ (h : HeaderFields). IfOk r (λ it. it ≡ part_table style lines place inner file h terms)) h e)))
+pub like_another : (style : Style) (lines : List Line) (r : Result Outcome AllocError) (place other : Place) (inner places : List Place) (file own : List ℕ) (fields header : HeaderFields) (also : AbsolutePath → Bool) (terms : Trees) → place ≡ other → inner ≡ places → file ≡ own → fields ≡ header
+    → IfOk r (λ it. it ≡ of_table place fields.signature file (table_with style fields also terms) (its_pieces style lines (place ∷ inner) fields also terms))
+    → IfOk r (λ it. it ≡ of_table other header.signature own (table_with style header also terms) (its_pieces style lines (other ∷ places) header also terms))
+like_another style lines r place other inner places file own fields header also terms p i f h e =
+    subst (λ p. IfOk r (λ it. it ≡ part_table style lines p places own header also terms)) p
+    (subst (λ i. IfOk r (λ it. it ≡ part_table style lines place i own header also terms)) i
+    (subst (λ f. IfOk r (λ it. it ≡ part_table style lines place inner f header also terms)) f
+    (subst (λ (h : HeaderFields). IfOk r (λ it. it ≡ part_table style lines place inner file h also terms)) h e)))
 
 -- errors of the form
 shape_told : (messages errors : List Message) (it : Compiled) → (messages ≡ errors) × (errors ≡ [] → ⊥) → Refused messages ≡ unless_refused errors it

@@ -6,6 +6,7 @@ use Rattle.iasl_messages.specs.declared.message.Message.{Message}
 use Rattle.iasl_messages.specs.declared.place.Place.{Place}
 use Rattle.iasl_messages.specs.declared.place.Line.{Line}
 use Rattle.iasl_messages.specs.declared.place.Piece.{Piece}
+use Rattle.acpi_values.specs.Paths.{AbsolutePath}
 use Rattle.asl_tree.specs.declared.program.Block.{Block}
 use Rattle.asl_tree.specs.Tree.{Trees}
 use Rattle.term_places.specs.Places.{places_of}
@@ -22,7 +23,7 @@ use Rattle.aml_writer.specs.Written.{IsTableOf, IsTable}
 use Rattle.aml_sizes.specs.Pieces.{joined_pieces}
 use Rattle.aml_writer.specs.Cuts.{table_parts, pieces_with, IsCut}
 use Rattle.aml_sizes.proofs.Encodings.{ready_bytes}
-use Rattle.named_sessions.specs.Core.{core_of}
+use Rattle.named_sessions.specs.Core.{core_beside}
 use Rattle.named_sessions.proofs.Settles.{knows_start}
 use Rattle.named_sessions.proofs.Main.{is_ready}
 use Rattle.asl_tables.specs.declared.compile.Style.{Style}
@@ -31,34 +32,34 @@ use Rattle.block_outcomes.specs.declared.outcome.Outcome.TheVariants.{Done, Faul
 use Rattle.asl_tables.specs.Compiled.{too_long, its_table, its_pieces, of_table}
 use Rattle.asl_tables.specs.Ready.{IsCoreOf}
 
-pub block_ready : (shorten : Bool) (terms : Trees) (block : Block) → IsCoreOf shorten terms block → IsReadyBlock (known_of terms) block
-block_ready shorten terms block is = record {
+pub block_ready : (shorten : Bool) (also : AbsolutePath → Bool) (terms : Trees) (block : Block) → IsCoreOf shorten also terms block → IsReadyBlock (known_of terms) block
+block_ready shorten also terms block is = record {
   signature = is.room.signature;
   oem_id = is.room.oem_id;
   table_id = is.room.table_id;
   oem_revision = is.room.oem_revision;
-  terms = subst (λ ts. AreReady (known_of terms) ts []) (sym is.core) (is_ready shorten terms is.shaped is.names is.counts);
+  terms = subst (λ ts. AreReady (known_of terms) ts []) (sym is.core) (is_ready shorten also terms is.shaped is.names is.counts);
 }
 
 abbrev by_size : Bool → Place → List ℕ → List ℕ → List Piece → Outcome
 by_size c place signature own pieces = if c then Done signature own pieces else Faulty (too_long place ∷ [])
 
 -- the pieces of a core's block
-abbrev pub pieces_of : Style → List Line → Trees → Block → List Piece
-pieces_of style lines terms block = its_pieces style lines (block.place ∷ places_of block.terms.items) (fields_of block) terms
+abbrev pub pieces_of : Style → List Line → (also : AbsolutePath → Bool) → Trees → Block → List Piece
+pieces_of style lines also terms block = its_pieces style lines (block.place ∷ places_of block.terms.items) (fields_of block) also terms
 
-pub table_written : (style : Style) (lines : List Line) (terms : Trees) (block : Block) (signature own : List ℕ) (pieces : List Piece) → IsCoreOf style.shorten terms block → signature ≡ block.signature → own ≡ block.file
-    → IsTable block style.short (joined_pieces pieces) → IsCut lines block style.short pieces → Done signature own pieces ≡ of_table block.place block.signature block.file (its_table style terms block) (pieces_of style lines terms block)
-table_written style lines terms block signature own pieces is esig eown any cut =
-    let ready : IsReadyBlock (known_of terms) block = block_ready style.shorten terms block is in
+pub table_written : (style : Style) (lines : List Line) (also : AbsolutePath → Bool) (terms : Trees) (block : Block) (signature own : List ℕ) (pieces : List Piece) → IsCoreOf style.shorten also terms block → signature ≡ block.signature → own ≡ block.file
+    → IsTable block style.short (joined_pieces pieces) → IsCut lines block style.short pieces → Done signature own pieces ≡ of_table block.place block.signature block.file (its_table style also terms block) (pieces_of style lines also terms block)
+table_written style lines also terms block signature own pieces is esig eown any cut =
+    let ready : IsReadyBlock (known_of terms) block = block_ready style.shorten also terms block is in
     let table : IsTableOf (known_of terms) (externals terms) block style.short (joined_pieces pieces) = any.table (known_of terms) (externals terms) (knows_start terms is.names) ready in
-    let are : pieces ≡ pieces_of style lines terms block =
+    let are : pieces ≡ pieces_of style lines also terms block =
     (cut.cut (known_of terms) ready.terms).are ∙ ap (λ ts. pieces_with lines (block.place ∷ places_of block.terms.items) (table_parts (fields_of block) style.short ts)) is.core in
-    let e : joined_pieces pieces ≡ its_table style terms block = table.encoded ∙ ap (λ ts. table_bytes (fields_of block) (encoded_all (width_of block.revision) style.short ts)) is.core in
-    let within : length (its_table style terms block) ≤ most_table_bytes = subst (λ bs. length bs ≤ most_table_bytes) e table.within in
-    let fits : nat_le (length (its_table style terms block)) most_table_bytes ≡ true = grind (arith, nat_tests) in
+    let e : joined_pieces pieces ≡ its_table style also terms block = table.encoded ∙ ap (λ ts. table_bytes (fields_of block) (encoded_all (width_of block.revision) style.short ts)) is.core in
+    let within : length (its_table style also terms block) ≤ most_table_bytes = subst (λ bs. length bs ≤ most_table_bytes) e table.within in
+    let fits : nat_le (length (its_table style also terms block)) most_table_bytes ≡ true = grind (arith, nat_tests) in
     ap (λ s. Done s own pieces) esig ∙ ap (λ o. Done block.signature o pieces) eown ∙ ap (λ ps. Done block.signature block.file ps) are
-    ∙ sym (ap (λ c. by_size c block.place block.signature block.file (pieces_of style lines terms block)) fits)
+    ∙ sym (ap (λ c. by_size c block.place block.signature block.file (pieces_of style lines also terms block)) fits)
 
 abbrev made : ℕ → Place → List ℕ → Message
 made number place name = record { number = number; place = place; name = name }
@@ -66,14 +67,15 @@ made number place name = record { number = number; place = place; name = name }
 message_is : (message other : Message) → message.number ≡ other.number → message.place ≡ other.place → message.name ≡ other.name → message ≡ other
 message_is message other en ep ex = ap (λ n. made n message.place message.name) en ∙ ap (λ p. made other.number p message.name) ep ∙ ap (λ name. made other.number other.place name) ex
 
-pub refused_written : (style : Style) (lines : List Line) (terms : Trees) (block : Block) (message : Message) (messages : List Message) → IsCoreOf style.shorten terms block → messages ≡ message ∷ [] → IsTooLong block style.short message → Faulty messages ≡ of_table block.place block.signature block.file (its_table style terms block) (pieces_of style lines terms block)
-refused_written style lines terms block message messages is em long =
+pub refused_written : (style : Style) (lines : List Line) (also : AbsolutePath → Bool) (terms : Trees) (block : Block) (message : Message) (messages : List Message) → IsCoreOf style.shorten also terms block
+    → messages ≡ message ∷ [] → IsTooLong block style.short message → Faulty messages ≡ of_table block.place block.signature block.file (its_table style also terms block) (pieces_of style lines also terms block)
+refused_written style lines also terms block message messages is em long =
     let written = style_of block style.short in
-    let size : most_table_bytes < length (its_table style terms block) =
-    let l : length (its_table style terms block) ≡ 36 + length (encoded_all written.width style.short (core_of style.shorten terms)) = length_is (fields_of block) (encoded_all written.width style.short (core_of style.shorten terms)) is.room.signature in
-    let c : nodes_bytes written [] block.terms.items ≡ encoded_all written.width style.short (core_of style.shorten terms) = ready_bytes (known_of terms) written block.terms.items (block_ready style.shorten terms block is).terms ∙ ap (encoded_all written.width style.short) is.core in
-    let n : length (nodes_bytes written [] block.terms.items) ≡ length (encoded_all written.width style.short (core_of style.shorten terms)) = ap length c in
+    let size : most_table_bytes < length (its_table style also terms block) =
+    let l : length (its_table style also terms block) ≡ 36 + length (encoded_all written.width style.short (core_beside style.shorten also terms)) = length_is (fields_of block) (encoded_all written.width style.short (core_beside style.shorten also terms)) is.room.signature in
+    let c : nodes_bytes written [] block.terms.items ≡ encoded_all written.width style.short (core_beside style.shorten also terms) = ready_bytes (known_of terms) written block.terms.items (block_ready style.shorten also terms block is).terms ∙ ap (encoded_all written.width style.short) is.core in
+    let n : length (nodes_bytes written [] block.terms.items) ≡ length (encoded_all written.width style.short (core_beside style.shorten also terms)) = ap length c in
     omega (arith, long.passes, l, n) in
-    let passes : nat_le (length (its_table style terms block)) most_table_bytes ≡ false = grind (arith, nat_tests) in
+    let passes : nat_le (length (its_table style also terms block)) most_table_bytes ≡ false = grind (arith, nat_tests) in
     let same : message ≡ too_long block.place = message_is message (too_long block.place) long.number long.place long.no_name in
-    ap Faulty (em ∙ ap (λ m. m ∷ []) same) ∙ sym (ap (λ c. by_size c block.place block.signature block.file (pieces_of style lines terms block)) passes)
+    ap Faulty (em ∙ ap (λ m. m ∷ []) same) ∙ sym (ap (λ c. by_size c block.place block.signature block.file (pieces_of style lines also terms block)) passes)

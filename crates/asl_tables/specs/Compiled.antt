@@ -1,5 +1,5 @@
 -- What a source of ASL comes to: a table for each of its blocks, or errors.
-use Rattle.std.specs.Prelude.{◌≡◌, ℕ, suc, ◌-◌, nat_le, if◌then◌else◌, List, [], ◌∷◌, ◌++◌, length, All, ◌<◌, ◌≤◌, ⊤}
+use Rattle.std.specs.Prelude.{◌≡◌, ℕ, suc, ◌-◌, nat_le, if◌then◌else◌, List, [], ◌∷◌, ◌++◌, length, All, ◌<◌, ◌≤◌, ⊤, Bool}
 use Rattle.std.specs.Prelude.{Result, Ok, Err}
 use Rattle.iasl_messages.specs.declared.place.Place.{Place}
 use Rattle.iasl_messages.specs.declared.place.Line.{Line}
@@ -8,6 +8,7 @@ use Rattle.iasl_messages.specs.declared.message.Message.{Message}
 use Rattle.asl_lexer.specs.declared.token.Token.{Token}
 use Rattle.asl_lexer.specs.declared.mode.Fault.{Fault}
 use Rattle.asl_lexer.specs.Marks.{tokens_of, message_of}
+use Rattle.acpi_values.specs.Paths.{AbsolutePath}
 use Rattle.acpi_values.specs.Revisions.{width_of}
 use Rattle.asl_tree.specs.Tree.{Trees}
 use Rattle.asl_tree.specs.declared.program.Block.{Block}
@@ -15,7 +16,7 @@ use Rattle.aml_code.specs.Header.{HeaderFields, table_bytes, fields_of}
 use Rattle.aml_meaning.specs.Encoded.{encoded_all}
 use Rattle.aml_sizes.specs.TableSizes.{most_table_bytes}
 use Rattle.aml_writer.specs.Cuts.{table_parts, pieces_with}
-use Rattle.named_sessions.specs.Core.{core_of}
+use Rattle.named_sessions.specs.Core.{core_beside}
 use Rattle.asl_lower.specs.Nodes.{named_all}
 use Rattle.asl_fold.specs.Folds.{folded_where}
 use Rattle.wrapped_externals.specs.Wraps.{wrapped_where}
@@ -29,7 +30,7 @@ use Rattle.std.specs.Str.{IsAscii}
 use Rattle.asl_shape.specs.Plans.{Plans, plan_at, text_of}
 use Rattle.asl_shape.specs.Forms.{source_errors, alone, block_place, args_of}
 use Rattle.program_shapes.specs.Sources.{source_in, plans_in, terms_in, statements_in, layouts_in, regions_in, types_in, sizes_in}
-use Rattle.program_shapes.specs.Sources.{values_in, locals_in, notes_in, fields_in, width_in, table_in}
+use Rattle.program_shapes.specs.Sources.{values_in, locals_in, notes_in, fields_in, width_in, described_in, table_in}
 use Rattle.source_pieces.specs.Places.{core_places}
 use Rattle.source_pieces.specs.Pieces.{pieces_in}
 use Rattle.literal_checks.specs.Literals.{cut_literals_at}
@@ -54,17 +55,19 @@ abbrev pub of_table : Place → List ℕ → List ℕ → List ℕ → List Piec
 of_table place signature own bytes pieces = if nat_le (length bytes) most_table_bytes then Done signature own pieces else
     Faulty (too_long place ∷ [])
 
--- the table with this header of these terms, at the width that its revision gives
-abbrev pub table_with : Style → HeaderFields → Trees → List ℕ
-table_with style fields terms = table_bytes fields (encoded_all (width_of fields.revision) style.short (core_of style.shorten terms))
+-- the table with this header of these terms, at the width that its revision gives, where `also` stands in the way of their names
+abbrev pub table_with : Style → HeaderFields → (also : AbsolutePath → Bool) → Trees → List ℕ
+table_with style fields also terms =
+    table_bytes fields (encoded_all (width_of fields.revision) style.short (core_beside style.shorten also terms))
 
 -- the table of a block of these terms
-abbrev pub its_table : Style → Trees → Block → List ℕ
-its_table style terms block = table_with style (fields_of block) terms
+abbrev pub its_table : Style → (also : AbsolutePath → Bool) → Trees → Block → List ℕ
+its_table style also terms block = table_with style (fields_of block) also terms
 
 -- its pieces, at these places, with the texts of these lines
-abbrev pub its_pieces : Style → List Line → List Place → HeaderFields → Trees → List Piece
-its_pieces style lines places fields terms = pieces_with lines places (table_parts fields style.short (core_of style.shorten terms))
+abbrev pub its_pieces : Style → List Line → List Place → HeaderFields → (also : AbsolutePath → Bool) → Trees → List Piece
+its_pieces style lines places fields also terms =
+    pieces_with lines places (table_parts fields style.short (core_beside style.shorten also terms))
 
 -- terms with what stands for their Fors and for what prints, loops for their Switches, their symbols named, and their
 -- constants folded where that is asked for
@@ -77,12 +80,12 @@ unless_wrong [] it = it
 unless_wrong (m ∷ ms) it = Faulty (m ∷ ms)
 
 -- the table of a block of this form in which nothing is wrong, whose terms stand at these places once they are lowered
-abbrev pub of_right : Style → List Line → Place → List Place → List ℕ → HeaderFields → Trees → Outcome
-of_right style lines place inner own fields terms =
+abbrev pub of_right : Style → List Line → Place → List Place → List ℕ → HeaderFields → (also : AbsolutePath → Bool) → Trees → Outcome
+of_right style lines place inner own fields also terms =
     let lowered = lowered_as style fields terms in
     let core = wrapped_where style.wrap lowered in
-    of_table place fields.signature own (table_with style fields core)
-    (its_pieces style lines (place ∷ placed_where style.wrap lowered inner) fields core)
+    of_table place fields.signature own (table_with style fields also core)
+    (its_pieces style lines (place ∷ placed_where style.wrap lowered inner) fields also core)
 
 -- what of terms of a block at this place cannot be lowered: Switches for which too few Locals are free, and then too many copies
 abbrev pub unlowered : Place → Trees → Plans → List Message
@@ -90,9 +93,10 @@ unlowered block terms ps = few_locals terms ps ++ too_many_copies block ps
 
 -- a block of this form that is refused with what is wrong with its names, its statements or the lists of its fields,
 -- and where nothing is, with what of it cannot be lowered
-abbrev pub of_terms : Style → List Line → Place → List Place → List ℕ → HeaderFields → (names others few : List Message) → Trees → Outcome
-of_terms style lines place inner own fields names others few terms =
-    unless_wrong (with_others names others) (unless_wrong few (of_right style lines place inner own fields terms))
+abbrev pub of_terms : Style → List Line → Place → List Place → List ℕ → HeaderFields → (names others few : List Message) →
+    (also : AbsolutePath → Bool) → Trees → Outcome
+of_terms style lines place inner own fields names others few also terms =
+    unless_wrong (with_others names others) (unless_wrong few (of_right style lines place inner own fields also terms))
 
 -- the table of a block in which nothing is wrong, which is read alone
 abbrev pub written_in : Style → List Raw → List ℕ
@@ -136,7 +140,7 @@ unlowered_in items = locals_in items ++ copies_in items
 abbrev pub outcome_in : Style → List Line → List Raw → Outcome
 outcome_in style lines items =
     of_terms style lines (block_place (writtens items)) (core_places (plans_in items)) (own_in items) (fields_in items) (told_in items)
-    (others_in items) (unlowered_in items) (terms_in items)
+    (others_in items) (unlowered_in items) (described_in items) (terms_in items)
 
 -- what each of some blocks comes to, in a namespace of its own
 abbrev pub outcomes_in : Style → List Line → List Raw → List Outcome

@@ -1,5 +1,6 @@
 //! An ASL source to its tables, or its errors.
-ghost use Rattle.std.specs.Prelude.{◌≡◌, ◌↔◌, ℕ, ◌<◌, ◌^◌, ◌++◌, ◌∷◌, [], length, All, IfOk, IfErr, IsTrue};
+ghost use Rattle.std.specs.Prelude.{◌≡◌, ◌↔◌, ℕ, Bool, ◌<◌, ◌^◌, ◌++◌, ◌∷◌, [], length, All, IfOk, IfErr, IsTrue};
+ghost use Rattle.acpi_values.specs.Paths.{AbsolutePath};
 ghost use Rattle.acpi_values.specs.Revisions.{width_of};
 ghost use Rattle.asl_tree.specs.Tree.{Trees};
 ghost use Rattle.asl_tree.specs.View.{trees_of};
@@ -51,7 +52,7 @@ use asl_shape::shape;
 use asl_tree::program::{Block, Blocks};
 use asl_tree::term::Node;
 use block_checks::check::{CheckedBlock, check, first_class};
-use block_checks::names::Findings;
+use block_checks::names::{Findings, FoundNames};
 use block_outcomes::messages::{both, one_message, refusal};
 use block_outcomes::outcome::{Compiled, Outcome, join, none_sorted, with_outcome};
 use form_counts::copies::copies_where;
@@ -61,7 +62,6 @@ use iasl_messages::number::{NESTING_TOO_DEEP, SYNTAX};
 use iasl_messages::place::{Line, Lines, Pieces, Place};
 use iasl_ports::list::{List, Text};
 use literal_checks::check::cut_literals;
-use name_checks::check::Names;
 use name_spelling::spell::spell;
 use source_lines::lines::SourceLines;
 use std::alloc::{AllocError, Global};
@@ -110,9 +110,9 @@ fn write_core(
     lines: &SourceLines<'_>,
     block: Block,
 ) -> Result<Outcome, AllocError>
-    ensures { (terms : Trees) → IsCoreOf style.shorten terms block →
-        IfOk result (λ it. it ≡ of_table block.place block.signature block.file (its_table style terms block)
-        (its_pieces style lines.now (block.place ∷ places_of block.terms.items) (fields_of block) terms)) }
+    ensures { (also : AbsolutePath → Bool) (terms : Trees) → IsCoreOf style.shorten also terms block →
+        IfOk result (λ it. it ≡ of_table block.place block.signature block.file (its_table style also terms block)
+        (its_pieces style lines.now (block.place ∷ places_of block.terms.items) (fields_of block) also terms)) }
 {
     let signature = Text::from_bytes(alloc, block.signature.as_bytes())?;
     let own = Text::from_bytes(alloc, block.file.as_bytes())?;
@@ -264,11 +264,12 @@ fn right_or_few(
     block: Place,
     terms: &[Node],
     present: Presence,
-    names: Names,
+    names: FoundNames,
 ) -> Result<Findings, AllocError>
-    requires names { AreNamesOf (trees_of terms.now) names }
+    ghost also: { AbsolutePath → Bool }
+    requires names { AreNamesOf also (trees_of terms.now) names }
     requires present { IsPresenceOf (plans_of terms.now) present }
-    ensures { IfOk result (λ found. IsNamed found (not_lowered block (trees_of terms.now) (plans_of terms.now)) (trees_of terms.now)) }
+    ensures { IfOk result (λ found. IsNamed found (not_lowered block (trees_of terms.now) (plans_of terms.now)) also (trees_of terms.now)) }
 {
     let few = unlowered(alloc, block, terms, present)?;
     if few.is_empty() {
@@ -288,11 +289,12 @@ fn find(
     names: Findings,
     errors: Messages,
 ) -> Result<Findings, AllocError>
-    ghost told: { List Message }
-    requires names { IsNamed names told (trees_of terms.now) }
+    ghost told: { List Message × (AbsolutePath → Bool) }
+    requires names { IsNamed names told.0 told.1 (trees_of terms.now) }
     requires present { IsPresenceOf (plans_of terms.now) present }
     ensures { IfOk result (λ found. IsNamed found
-        (first_told (with_others told errors) (not_lowered block (trees_of terms.now) (plans_of terms.now))) (trees_of terms.now)) }
+        (first_told (with_others told.0 errors) (not_lowered block (trees_of terms.now) (plans_of terms.now))) told.1
+        (trees_of terms.now)) }
 {
     match first_class(names, errors)? {
         Findings::Right(names) => right_or_few(alloc, block, terms, present, names),
@@ -308,22 +310,34 @@ fn table_of(
     lines: &SourceLines<'_>,
     block: Block,
     present: Presence,
-    names: Names,
+    names: FoundNames,
 ) -> Result<Outcome, AllocError>
+    ghost also: { AbsolutePath → Bool }
     requires room { FitsHeader (fields_of block) }
     requires formed { AreFormed (Unit {0}) AreNamed (Unit {0}) (Unit {0}) (trees_of block.terms.items) }
     requires near { AreNear (trees_of block.terms.items) }
     requires numbers { node_count (plans_of block.terms.items) < 2 ^ 32 }
     requires present { IsPresenceOf (plans_of block.terms.items) present }
     requires shaped { AreShaped (named_all (without_switches (formed_all (trees_of block.terms.items)))) }
-    requires names { AreNamesOf (trees_of block.terms.items) names }
+    requires names { AreNamesOf also (trees_of block.terms.items) names }
     ensures { IfOk result (λ it. it ≡ of_right style lines.now block.place (core_places (plans_of block.terms.items)) block.file
-        (fields_of block) (trees_of block.terms.items)) }
+        (fields_of block) also (trees_of block.terms.items)) }
 {
     let mut core = lowered(alloc, style, block, present)?;
-    let Names { index, calls } = names;
+    let FoundNames {
+        index,
+        calls,
+        described,
+    } = names;
     let terms = replace(&mut core.terms, Vec::new(alloc));
-    let spelled = spell(alloc, index, calls.as_slice(), style.shorten, terms)?;
+    let spelled = spell(
+        alloc,
+        index,
+        calls.as_slice(),
+        described.as_slice(),
+        style.shorten,
+        terms,
+    )?;
     core.terms = spelled;
     write_core(alloc, style, lines, core)
 }
@@ -344,18 +358,18 @@ fn compile_noted(
     literals: Messages,
     checked: CheckedBlock,
 ) -> Result<Noted, AllocError>
-    ghost told: { List Message }
+    ghost told: { List Message × (AbsolutePath → Bool) }
     requires room { FitsHeader (fields_of checked.block) }
     requires formed { AreFormed (Unit {0}) AreNamed (Unit {0}) (Unit {0}) (trees_of checked.block.terms.items) }
-    requires names { IsNamed checked.names told (trees_of checked.block.terms.items) }
+    requires names { IsNamed checked.names told.0 told.1 (trees_of checked.block.terms.items) }
     requires present { IsPresenceOf (plans_of checked.block.terms.items) checked.present }
     requires near { checked.errors ≡ [] → AreNear (trees_of checked.block.terms.items) }
     requires shaped { checked.errors ≡ [] → AreShaped (named_all (without_switches (formed_all (trees_of checked.block.terms.items)))) }
     ensures notes { IfOk result (λ it. it.notes ≡ literals ++ checked.notes) }
     ensures outcome { IfOk result (λ it. it.outcome ≡
         of_terms style lines.now checked.block.place (core_places (plans_of checked.block.terms.items)) checked.block.file
-        (fields_of checked.block) told checked.errors
-        (not_lowered checked.block.place (trees_of checked.block.terms.items) (plans_of checked.block.terms.items))
+        (fields_of checked.block) told.0 checked.errors
+        (not_lowered checked.block.place (trees_of checked.block.terms.items) (plans_of checked.block.terms.items)) told.1
         (trees_of checked.block.terms.items)) }
 {
     let CheckedBlock {

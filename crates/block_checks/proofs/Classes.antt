@@ -3,7 +3,8 @@ use Rattle.std.proofs.Common.{◌≡◌, Bool, true, false, List, [], ◌∷◌,
 use Rattle.std.specs.Prelude.{◌++◌, if◌then◌else◌}
 use Rattle.iasl_messages.specs.declared.message.Message.{Message}
 use Rattle.asl_tree.specs.Tree.{Trees}
-use Rattle.name_checks.specs.declared.check.Names.{Names}
+use Rattle.acpi_values.specs.Paths.{AbsolutePath}
+use Rattle.block_checks.specs.declared.names.FoundNames.{FoundNames}
 use Rattle.block_checks.specs.Told.{is_of_kinds, with_others}
 use Rattle.block_checks.specs.Findings.{IsNamed}
 use Rattle.block_checks.specs.declared.names.Findings.TheVariants.{Right}
@@ -27,8 +28,8 @@ both_none [] others e = (refl, e)
 both_none (m ∷ ms) others e = absurd (some_behind (m ∷ ms) others (λ f. absurd cc) e)
 
 -- names in which nothing is wrong, and no other errors
-pub named_right : (names : Names) (told others : List Message) (terms : Trees) → IsNamed (Right names) told terms → others ≡ [] → IsNamed (Right names) (with_others told others) terms
-named_right names told others terms h none = (h.0, none_behind told others h.1 none)
+pub named_right : (names : FoundNames) (told others : List Message) (also : AbsolutePath → Bool) (terms : Trees) → IsNamed (Right names) told also terms → others ≡ [] → IsNamed (Right names) (with_others told others) also terms
+named_right names told others also terms h none = (h.0, none_behind told others h.1 none)
 
 -- other errors alone
 pub named_others : (told others : List Message) → told ≡ [] → (length others ≡ 0 → ⊥) → (others ≡ with_others told others) × (others ≡ [] → ⊥)

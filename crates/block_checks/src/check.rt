@@ -1,5 +1,6 @@
 //! The checks of a block that come before it is lowered, each with its one rule, together.
-ghost use Rattle.std.specs.Prelude.{◌≡◌, List, IfOk};
+ghost use Rattle.std.specs.Prelude.{◌≡◌, Bool, List, IfOk};
+ghost use Rattle.acpi_values.specs.Paths.{AbsolutePath};
 ghost use Rattle.acpi_values.specs.Revisions.{width_of};
 ghost use Rattle.asl_tree.specs.Tree.{Trees};
 ghost use Rattle.asl_tree.specs.View.{trees_of};
@@ -8,7 +9,7 @@ ghost use Rattle.asl_numbers.specs.Numbers.{numbered_all};
 ghost use Rattle.aml_code.specs.Header.{fields_of};
 ghost use Rattle.iasl_messages.specs.declared.message.Message.{Message};
 ghost use Rattle.named_sessions.specs.Shaped.{AreFormed, AreNamed};
-ghost use Rattle.descriptor_checks.specs.Resolved.{resolved_terms};
+ghost use Rattle.descriptor_checks.specs.Resolved.{described_paths, resolved_terms};
 ghost use Rattle.field_checks.specs.Lists.{all_errors};
 ghost use Rattle.type_checks.specs.Sizes as sizes;
 ghost use Rattle.switch_checks.specs.Repeats as repeats;
@@ -133,7 +134,7 @@ pub fn check(alloc: Global, block: Block) -> Result<CheckedBlock, AllocError>
     ensures plans { IfOk result (λ made. plans_of made.block.terms.items ≡ resolved_terms (plans_of block.terms.items)) }
     ensures trees { IfOk result (λ made. trees_of made.block.terms.items ≡ numbered_all 0 (resolved_terms (plans_of block.terms.items))) }
     ensures names { IfOk result (λ made. IsNamed made.names (told_of_names (plans_of block.terms.items))
-        (numbered_all 0 (resolved_terms (plans_of block.terms.items)))) }
+        (described_paths (plans_of block.terms.items)) (numbered_all 0 (resolved_terms (plans_of block.terms.items)))) }
     ensures errors { IfOk result (λ made. made.errors ≡ errors_beside_names (width_of block.revision) (plans_of block.terms.items)) }
     ensures notes { IfOk result (λ made. made.notes ≡ noted_of (plans_of block.terms.items)) }
     ensures present { IfOk result (λ made. IsPresenceOf (plans_of made.block.terms.items) made.present) }
@@ -190,8 +191,8 @@ fn with_others(errors: Messages, others: Messages) -> Result<Messages, AllocErro
 /// What a block is refused with, of which `check` gave these: the first class that has errors, whole. That is the class of names,
 /// alone, or that of kinds, in which the other errors stand behind those of names. Where there are none, the names.
 pub fn first_class(names: Findings, errors: Messages) -> Result<Findings, AllocError>
-    ensures { (told : List Message) (terms : Trees) → IsNamed names told terms →
-        IfOk result (λ found. IsNamed found (behind told errors) terms) }
+    ensures { (told : List Message) (also : AbsolutePath → Bool) (terms : Trees) → IsNamed names told also terms →
+        IfOk result (λ found. IsNamed found (behind told errors) also terms) }
 {
     match names {
         Findings::Right(names) if errors.is_empty() => Ok(Findings::Right(names)),

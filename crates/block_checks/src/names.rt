@@ -1,5 +1,5 @@
 //! The names of a block: what is told of them and by the checks that ask for them, and what is left for the spelling.
-ghost use Rattle.std.specs.Prelude.{◌≡◌, [], true, IfOk};
+ghost use Rattle.std.specs.Prelude.{◌≡◌, [], true, false, IfOk};
 ghost use Rattle.acpi_values.specs.Revisions.{width_of};
 ghost use Rattle.asl_tree.specs.View.{trees_of};
 ghost use Rattle.asl_shape.specs.Plans.{Plans, plans_of};
@@ -13,19 +13,20 @@ ghost use Rattle.name_notes.specs.Notes.{name_notes};
 ghost use Rattle.named_sessions.specs.Shaped.{AreFormed, AreNamed};
 ghost use Rattle.region_checks.specs.Regions.{region_errors};
 ghost use Rattle.type_checks.specs.Types.{wrong_types as types_wrong};
-ghost use Rattle.descriptor_checks.specs.Resolved.{checked_terms, resolved_terms, table_of};
+ghost use Rattle.descriptor_checks.specs.Resolved.{checked_terms, described_paths as paths_described, resolved_terms, table_of};
 ghost use Rattle.descriptor_checks.specs.Resolves.{AreUses};
 ghost use Rattle.descriptor_checks.specs.Told.{checked_trees};
 ghost use Rattle.block_checks.specs.Findings.{AreNamesOf, IsNamed};
 ghost use Rattle.block_checks.specs.Told.{noted_of, told_of_names};
 
+use acpi_names::index::Index;
 use acpi_values::width::Width;
 use asl_numbers::number::numbered;
 use asl_tree::program::Block;
 use asl_tree::term::{NamedDescriptor, Node};
 use block_outcomes::messages::{first_told, refusal};
 use descriptor_checks::check::{Resolved, Told, Uses, resolved_names, told_of};
-use descriptor_checks::forget::forget_descriptors;
+use descriptor_checks::forget::{described_paths, forget_descriptors};
 use descriptor_fields::declare::names_descriptors;
 use descriptor_fields::strip::stripped;
 use iasl_messages::message::Messages;
@@ -37,11 +38,21 @@ use std::alloc::{AllocError, Global};
 use std::mem::replace;
 use type_checks::check::wrong_types;
 
+/// The names of a block whose names are right, as their spelling asks for them.
+#[derive(Drop)]
+pub struct FoundNames {
+    pub index: Index,
+    /// By the number of a path, how many arguments its first call has.
+    pub calls: Vec<Option<usize>>,
+    /// By the number of a path, whether a descriptor has it, which is not named; nothing where no descriptor has a name.
+    pub described: Vec<bool>,
+}
+
 /// What is found of a block's terms: their names, where nothing is wrong, or what is wrong.
 #[derive(Drop)]
 pub enum Findings {
-    /// Nothing is wrong: the names, as their spelling asks for them.
-    Right(Names),
+    /// Nothing is wrong: the names.
+    Right(FoundNames),
     /// What is wrong: at least one error.
     Wrong(Messages),
 }
@@ -74,10 +85,18 @@ pub(crate) struct NamedBlock {
 fn right_or_wrong(alloc: Global, known: Known<'_>) -> Result<Findings, AllocError>
     requires terms { are_terms (trees_of known.terms.now) ≡ true }
     requires known { KnowsItsTerms known }
-    ensures { IfOk result (λ names. IsNamed names (told_errors (trees_of known.entry.terms.now)) (trees_of known.entry.terms.now)) }
+    ensures { IfOk result (λ names. IsNamed names (told_errors (trees_of known.entry.terms.now)) (λ path. false)
+        (trees_of known.entry.terms.now)) }
 {
     match check_known(alloc, known) {
-        Ok(names) => Ok(Findings::Right(names)),
+        Ok(names) => {
+            let Names { index, calls } = names;
+            Ok(Findings::Right(FoundNames {
+                index,
+                calls,
+                described: Vec::new(alloc),
+            }))
+        }
         Err(stage) => Ok(Findings::Wrong(refusal(stage)?)),
     }
 }
@@ -86,7 +105,7 @@ fn right_or_wrong(alloc: Global, known: Known<'_>) -> Result<Findings, AllocErro
 // check, and let go with the terms that it borrows.
 fn ask(alloc: Global, width: Width, terms: &[Node]) -> Result<ToldByNames, AllocError>
     requires { are_terms (trees_of terms.now) ≡ true }
-    ensures names { IfOk result (λ it. IsNamed it.names (told_errors (trees_of terms.now)) (trees_of terms.now)) }
+    ensures names { IfOk result (λ it. IsNamed it.names (told_errors (trees_of terms.now)) (λ path. false) (trees_of terms.now)) }
     ensures regions { IfOk result (λ it. it.regions ≡ region_errors width (trees_of terms.now) (plans_of terms.now)) }
     ensures types { IfOk result (λ it. it.types ≡ types_wrong (trees_of terms.now) (plans_of terms.now)) }
     ensures notes { IfOk result (λ it. it.notes ≡ name_notes (trees_of terms.now)) }
@@ -105,34 +124,49 @@ fn ask(alloc: Global, width: Width, terms: &[Node]) -> Result<ToldByNames, Alloc
 }
 
 // The names that are known, without those of descriptors.
-fn names_without(known: Known<'_>, table: &[Option<NamedDescriptor>]) -> Names
+fn names_without(
+    alloc: Global,
+    known: Known<'_>,
+    table: &[Option<NamedDescriptor>],
+) -> Result<FoundNames, AllocError>
     ghost ps: { Plans }
     requires trees { trees_of known.terms.now ≡ checked_trees ps }
     requires known { KnowsItsTerms known }
     requires table { Tabled known.facts.index.paths table.now (table_of (checked_terms ps)) }
     requires formed { AreFormed (Unit {0}) AreNamed (Unit {0}) (Unit {0}) (numbered_all 0 ps) }
     requires right { told_of_names ps ≡ [] }
-    ensures { AreNamesOf (numbered_all 0 (resolved_terms ps)) result }
+    ensures { IfOk result (λ names. AreNamesOf (paths_described ps) (numbered_all 0 (resolved_terms ps)) names) }
 {
     let (mut index, calls) = known.into_names();
+    let described = described_paths(alloc, table, index.named.len())?;
     forget_descriptors(&mut index, table);
-    Names { index, calls }
+    Ok(FoundNames {
+        index,
+        calls,
+        described,
+    })
 }
 
 // The same, or what is told of the names.
-fn without_or_told(known: Known<'_>, table: &[Option<NamedDescriptor>], told: Messages) -> Findings
+fn without_or_told(
+    alloc: Global,
+    known: Known<'_>,
+    table: &[Option<NamedDescriptor>],
+    told: Messages,
+) -> Result<Findings, AllocError>
     ghost ps: { Plans }
     requires trees { trees_of known.terms.now ≡ checked_trees ps }
     requires known { KnowsItsTerms known }
     requires table { Tabled known.facts.index.paths table.now (table_of (checked_terms ps)) }
     requires formed { AreFormed (Unit {0}) AreNamed (Unit {0}) (Unit {0}) (numbered_all 0 ps) }
     requires told { told ≡ told_of_names ps }
-    ensures { IsNamed result (told_of_names ps) (numbered_all 0 (resolved_terms ps)) }
+    ensures { IfOk result (λ found. IsNamed found (told_of_names ps) (paths_described ps) (numbered_all 0 (resolved_terms ps))) }
 {
     if told.is_empty() {
-        Findings::Right(names_without(known, table))
+        let names = names_without(alloc, known, table)?;
+        Ok(Findings::Right(names))
     } else {
-        Findings::Wrong(told)
+        Ok(Findings::Wrong(told))
     }
 }
 
@@ -149,7 +183,8 @@ fn ask_described(
     requires trees { trees_of terms.now ≡ checked_trees ps }
     requires formed { AreFormed (Unit {0}) AreNamed (Unit {0}) (Unit {0}) (numbered_all 0 ps) }
     requires uses { AreUses ps uses }
-    ensures names { IfOk result (λ it. IsNamed it.names (told_of_names ps) (numbered_all 0 (resolved_terms ps))) }
+    ensures names { IfOk result (λ it. IsNamed it.names (told_of_names ps) (paths_described ps)
+        (numbered_all 0 (resolved_terms ps))) }
     ensures regions { IfOk result (λ it. it.regions ≡ region_errors width (checked_trees ps) (checked_terms ps)) }
     ensures types { IfOk result (λ it. it.types ≡ types_wrong (checked_trees ps) (checked_terms ps)) }
     ensures notes { IfOk result (λ it. it.notes ≡ noted_of ps) }
@@ -165,8 +200,9 @@ fn ask_described(
     let types = wrong_types(alloc, &known)?;
     let noted = notes_of(alloc, &known.facts.index, &known.mentions, &owners)?;
     let told = first_told(Messages::from_vec(names), Messages::from_vec(kinds));
+    let found = without_or_told(alloc, known, &table, told)?;
     Ok(ToldByNames {
-        names: without_or_told(known, &table, told),
+        names: found,
         regions,
         types,
         notes: noted,
@@ -180,7 +216,8 @@ fn named_terms(alloc: Global, width: Width, terms: Vec<Node>) -> Result<Numbered
     requires formed { AreFormed (Unit {0}) AreNamed (Unit {0}) (Unit {0}) (numbered_all 0 ps) }
     ensures plans { IfOk result (λ made. plans_of made.terms.items ≡ resolved_terms ps) }
     ensures trees { IfOk result (λ made. trees_of made.terms.items ≡ numbered_all 0 (resolved_terms ps)) }
-    ensures names { IfOk result (λ made. IsNamed made.told.names (told_of_names ps) (numbered_all 0 (resolved_terms ps))) }
+    ensures names { IfOk result (λ made. IsNamed made.told.names (told_of_names ps) (paths_described ps)
+        (numbered_all 0 (resolved_terms ps))) }
     ensures regions { IfOk result (λ made. made.told.regions ≡ region_errors width (checked_trees ps) (checked_terms ps)) }
     ensures types { IfOk result (λ made. made.told.types ≡ types_wrong (checked_trees ps) (checked_terms ps)) }
     ensures notes { IfOk result (λ made. made.told.notes ≡ noted_of ps) }
@@ -203,7 +240,7 @@ pub(crate) fn name_block(alloc: Global, block: Block) -> Result<NamedBlock, Allo
     ensures plans { IfOk result (λ made. plans_of made.block.terms.items ≡ resolved_terms (plans_of block.terms.items)) }
     ensures trees { IfOk result (λ made. trees_of made.block.terms.items ≡ numbered_all 0 (resolved_terms (plans_of block.terms.items))) }
     ensures names { IfOk result (λ made. IsNamed made.told.names (told_of_names (plans_of block.terms.items))
-        (numbered_all 0 (resolved_terms (plans_of block.terms.items)))) }
+        (paths_described (plans_of block.terms.items)) (numbered_all 0 (resolved_terms (plans_of block.terms.items)))) }
     ensures regions { IfOk result (λ made. made.told.regions ≡ region_errors (width_of block.revision)
         (checked_trees (plans_of block.terms.items)) (checked_terms (plans_of block.terms.items))) }
     ensures types { IfOk result (λ made. made.told.types ≡ types_wrong (checked_trees (plans_of block.terms.items))

@@ -4,3 +4,4 @@ pub mod Owning
 pub mod Telling
 pub mod Naming
 pub mod Senses
+pub mod Noting

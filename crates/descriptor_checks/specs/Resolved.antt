@@ -1,6 +1,6 @@
 -- The descriptors that the terms of a block declare, and the fields of these that it uses, which become constants (ACPI
 -- Specification 6.4, 19.2.8).
-use Rattle.std.specs.Prelude.{ℕ, Bool, false, List, [], ◌∷◌, ◌++◌, Option}
+use Rattle.std.specs.Prelude.{ℕ, Bool, false, List, [], ◌∷◌, ◌++◌, Option, is_some}
 use Rattle.acpi_values.specs.Paths.{AbsolutePath}
 use Rattle.acpi_state.specs.Objects.{lookup}
 use Rattle.acpi_state.specs.Outcomes.{choose}
@@ -67,3 +67,7 @@ broken_fields ps = let all = declaring ps in broken_from (fields_of all) OfCall 
 -- the terms that are compiled
 abbrev pub resolved_terms : Plans → Plans
 resolved_terms ps = stripped (checked_terms ps)
+
+-- the paths of the descriptors, which a search of a name meets, and at which nothing stands when the block runs
+abbrev pub described_paths : Plans → AbsolutePath → Bool
+described_paths ps path = is_some (table_of (checked_terms ps) path)

@@ -13,17 +13,13 @@ module _ {A : Type 0} (P : A → Type 0) where
   each_both [] ys h k = k
   each_both (x ∷ xs) ys h k = (h.0, each_both xs ys h.1 k)
 
-  pub each_unless : (b : Bool) (xs : List A) → Each P xs → Each P (if b then [] else xs)
-  each_unless true xs h = tt
-  each_unless false xs h = h
+  pub each_either : (b : Bool) (xs ys : List A) → Each P xs → Each P ys → Each P (if b then xs else ys)
+  each_either true xs ys h k = h
+  each_either false xs ys h k = k
 
   pub each_kept : (test : A → Bool) (xs : List A) → Each P xs → Each P (filter test xs)
   each_kept test [] h = tt
-  each_kept test (x ∷ xs) h = by_test (test x) (each_kept test xs h.1)
-    where
-      by_test : (b : Bool) → Each P (filter test xs) → Each P (if b then x ∷ filter test xs else filter test xs)
-      by_test true k = (h.0, k)
-      by_test false k = k
+  each_kept test (x ∷ xs) h = let k = each_kept test xs h.1 in each_either (test x) (x ∷ filter test xs) (filter test xs) (h.0, k) k
 
   pub each_of : ((x : A) → P x) → (xs : List A) → Each P xs
   each_of h [] = tt

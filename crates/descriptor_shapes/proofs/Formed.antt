@@ -10,10 +10,10 @@ use Rattle.aml_sessions.specs.Ready.{is_expression, is_constant, SpotReady}
 use Rattle.named_sessions.specs.Shaped.{LetterShaped, ElementShaped, EffectShaped, IsFormed, IsFormedSpot, IsFormedAlone, AreFormedOperands, AreFormedSpots, AreFormedValues, AreFormedElements, AreFormed}
 use Rattle.named_sessions.specs.Shaped.{AreFormedCases, IsNumber, IsCaseMember, AreCaseMembers, HaveCaseMembers, IsCaseValue, StartsNoElse, IsFollowed, AreNamed}
 use Rattle.descriptor_fields.specs.Values.{has_value}
-use Rattle.descriptor_shapes.proofs.Like.{Like, LikeInteger, LikeConstant, LikeString, LikeSlot, LikeDebug, LikeOmitted, LikeRaw, LikeMisshapen, LikeUse, Counted, LikeCall, LikeApply, LikeOperated, LikeAssigned}
+use Rattle.descriptor_shapes.proofs.Like.{Like, LikeInteger, LikeOmitted, LikeRaw, LikeMisshapen, LikeUse, Counted, LikeCall, LikeApply, LikeOperated, LikeAssigned}
 use Rattle.descriptor_shapes.proofs.Like.{LikeAssignedBy, LikeBuffer, LikeBytes, LikePackage, LikeVarPackage, LikeSized, LikeCondRefOf, LikeReturn, LikeName, LikeMethod, LikeContainer, LikeScope, LikeIf, LikeElseIf}
 use Rattle.descriptor_shapes.proofs.Like.{LikeElse, LikeWhile, LikeFor, LikePrint, LikeSwitch, LikeCase, LikeDefault, LikeRegion, LikeField, LikeIndexField, LikeBankField, LikeCreate, LikeBy, NoneBy, FirstBy}
-use Rattle.descriptor_shapes.proofs.Like.{SameUnit, SameSkip, SameOffset, SameAccess, LikeConnected, SameResource, LikeUnits, NoUnits, MoreUnits, LikeFrom, NoneFrom, MoreFrom, same_count}
+use Rattle.descriptor_shapes.proofs.Like.{SameSkip, LikeUnits, NoUnits, MoreUnits, LikeFrom, NoneFrom, MoreFrom, same_count}
 
 -- Fors and what prints, symbols and Switches may stand in a program as it is parsed
 abbrev One : Type 0
@@ -57,11 +57,7 @@ module _ (Stands : Place → Type 0) where
 
   member : {p : Bool} {t u : Tree} → Like Stands p t u → IsCaseMember t → IsCaseMember u
   member (LikeBuffer bytes more size) h = number size h
-  member (LikeBytes n m bytes more) h = h
-  member (LikeInteger n) h = h
-  member (LikeConstant literal) h = h
-  member (LikeString text) h = h
-  member _ h = absurd h
+  member _ h = search
 
   members : {ks : ℕ → Bool} {n : ℕ} {ts us : Trees} → LikeFrom Stands ks n ts us → AreCaseMembers ts → AreCaseMembers us
   members NoneFrom h = h
@@ -89,12 +85,8 @@ module _ (Stands : Place → Type 0) where
 
   units : {items others : List (FieldItem UnitName)} → LikeUnits Stands items others → AreNamed items → AreNamed others
   units NoUnits h = h
-  units (MoreUnits (SameUnit segment bits placed) rest) h = (h.0, units rest h.1)
   units (MoreUnits (SameSkip bits) rest) h = units rest h
-  units (MoreUnits (SameOffset bytes) rest) h = units rest h
-  units (MoreUnits (SameAccess access attribute count) rest) h = (h.0, units rest h.1)
-  units (MoreUnits (LikeConnected name placed) rest) h = (h.0, units rest h.1)
-  units (MoreUnits (SameResource bytes) rest) h = (h.0, units rest h.1)
+  units (MoreUnits _ rest) h = search (units rest)
 
   -- ---- formed trees
 
@@ -113,10 +105,9 @@ module _ (Stands : Place → Type 0) where
   by_letter Valued e like go spot h = (expression like h.0, go h.1)
   by_letter Kept e like go spot h = (expression like h.0, go h.1)
   by_letter Placed e like go spot h = spot e h
-  by_letter Used e (LikeUse name placed) go spot h = h
   by_letter Used e (Counted name n placed) go spot h = absurd cc
   by_letter (L.Raw size) e (LikeRaw other n) go spot h = h
-  by_letter _ e _ go spot h = absurd h
+  by_letter _ e _ go spot h = search
 
   mutual
     formed : {p : Bool} {t u : Tree} → Like Stands p t u → Formed t → Formed u
@@ -163,11 +154,7 @@ module _ (Stands : Place → Type 0) where
           (λ k. alone like likes k) h.1,
     )
     spot e (LikeOperated op like) h = (h.0, h.1, by_form (spot_form op) _ ⊥ _ ⊥ (λ k. operands like k) (λ k. k) h.2)
-    spot e LikeOmitted h = h
-    spot e LikeDebug h = h
-    spot e (LikeSlot slot) h = h
-    spot e (LikeUse name placed) h = h
-    spot e _ h = absurd h
+    spot e _ h = search
 
     alone : {letters : List Letter} {ks : ℕ → Bool} {n : ℕ} {args others targets goals : Trees} → LikeBy Stands letters args others → LikeFrom Stands ks n targets goals
         → IsFormedAlone One AreNamed One One args targets → IsFormedAlone One AreNamed One One others goals

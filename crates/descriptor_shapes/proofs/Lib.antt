@@ -1,13 +1,10 @@
 pub mod Like
-pub mod Forms
 pub mod Formed
 pub mod Uses
-pub mod Bodies
 pub mod Resolved
 pub mod Terms
 pub mod Each
 pub mod Unnamed
-pub mod Untold
 pub mod TreePlaces
 pub mod MentionPlaces
 pub mod Places

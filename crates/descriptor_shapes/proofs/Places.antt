@@ -15,7 +15,7 @@ use Rattle.descriptor_fields.specs.Constants.{resolved_use, broken_use, resolved
 use Rattle.descriptor_fields.specs.Nodes.{at_node}
 use Rattle.descriptor_checks.specs.Resolved.{fields_of, checked_terms, broken_fields, resolved_terms}
 use Rattle.descriptor_shapes.specs.Places.{NamesWithin, PlanWithin, PlansWithin}
-use Rattle.descriptor_shapes.proofs.Each.{Each, each_both, each_unless}
+use Rattle.descriptor_shapes.proofs.Each.{Each, each_both, each_either}
 
 abbrev pub IsTold : ℕ → Message → Type 0
 IsTold files m = IsIn files m.place
@@ -77,9 +77,7 @@ module _ (files : ℕ) where
   mutual
     closed_within : (p : Plan) → PlanWithin files p → PlanWithin files (closed p)
     closed_within (a_form op args body) h = (h.0, (by_terms (has_terms op) [] (stripped body) body tt (stripped_within body h.1) h.1).1)
-    closed_within (a_fill bytes named) h = h
-    closed_within (a_call name args) h = h
-    closed_within _ h = tt
+    closed_within _ h = search
 
     stripped_within : (ps : Plans) → PlansWithin files ps → PlansWithin files (stripped ps)
     stripped_within no_plans h = tt
@@ -89,7 +87,7 @@ module _ (files : ℕ) where
 
   use_within : (bits value : Bool) (name : Path) (place : Place) (field : Option ℕ) → IsIn files place
       → PlanWithin files (resolved_use bits value name field) × Each (IsTold files) (broken_use bits value place field)
-  use_within bits true name place (Some bit) h = (tt, each_unless (IsTold files) (bits || nat_eq (bit % 8) 0) _ (h, tt))
+  use_within bits true name place (Some bit) h = (tt, each_either (IsTold files) (bits || nat_eq (bit % 8) 0) [] _ tt (h, tt))
   use_within bits _ name place _ h = (tt, tt)
 
   module _ (fields : List (ℕ × ℕ)) where
@@ -102,8 +100,7 @@ module _ (files : ℕ) where
           let a = terms_within (Arguments op) 0 bits (suc node) args k.0 in
           let b = terms_within (Contents op) 0 bits (suc node + nodes args) body k.1 in
           ((a.0, b.0), each_both (IsTold files) (broken_from fields (Arguments op) 0 bits (suc node) args) (broken_from fields (Contents op) 0 bits (suc node + nodes args) body) a.1 b.1)
-      term_within bits value place node (a_fill bytes named) h k = (k, tt)
-      term_within bits value place node _ h k = (tt, tt)
+      term_within bits value place node _ h k = search
 
       terms_within : (among : Among) (n : ℕ) (bits : Bool) (node : ℕ) (ps : Plans) → PlansWithin files ps
           → PlansWithin files (resolved_from fields among n bits node ps) × Each (IsTold files) (broken_from fields among n bits node ps)

@@ -19,7 +19,7 @@ use Rattle.descriptor_checks.specs.Told.{fault_of, field_errors, is_below, below
 use Rattle.descriptor_shapes.specs.Places.{PlansWithin}
 use Rattle.descriptor_shapes.proofs.TreePlaces.{numbered_within}
 use Rattle.descriptor_shapes.proofs.MentionPlaces.{IsMentionedIn, AreMentionedIn, block_in}
-use Rattle.descriptor_shapes.proofs.Each.{Each, each_both, each_unless, each_kept, each_all}
+use Rattle.descriptor_shapes.proofs.Each.{Each, each_both, each_either, each_kept, each_all}
 use Rattle.descriptor_shapes.proofs.Places.{IsTold, declaring_within, checked_within, broken_within}
 
 module _ (files : ℕ) where
@@ -87,11 +87,11 @@ module _ (files : ℕ) where
 
     fields_in : (ms : List Mention) → AreMentionedIn files ms → AreErrorsIn (all_field_errors has look ms)
     fields_in [] h = tt
-    fields_in (m ∷ ms) h = both _ _ (each_unless IsErrorIn (is_no_field has look m) (field_errors m) (field_in m h.0)) (fields_in ms h.1)
+    fields_in (m ∷ ms) h = both _ _ (each_either IsErrorIn (is_no_field has look m) [] (field_errors m) tt (field_in m h.0)) (fields_in ms h.1)
 
     faults_in : (ms : List Mention) → AreMentionedIn files ms → Each (IsTold files) (all_use_faults has look ms)
     faults_in [] h = tt
-    faults_in (m ∷ ms) h = each_both (IsTold files) _ _ (each_unless (IsTold files) (is_of_no_descriptor has look m) (fault_of m) (fault_in m h.0)) (faults_in ms h.1)
+    faults_in (m ∷ ms) h = each_both (IsTold files) _ _ (each_either (IsTold files) (is_of_no_descriptor has look m) [] (fault_of m) tt (fault_in m h.0)) (faults_in ms h.1)
 
   -- ---- messages
 

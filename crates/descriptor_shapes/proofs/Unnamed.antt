@@ -1,6 +1,6 @@
--- Terms in which no descriptor has a name.
+-- Blocks whose mentions are of no descriptor and of no field of one, as of terms in which no descriptor has a name.
 use Rattle.std.proofs.Common.{◌≡◌, ℕ, suc, ◌+◌, Bool, true, false, List, [], ◌∷◌, ◌++◌, Option, None, refl, sym, subst, ap, ◌∙◌, arith}
-use Rattle.std.specs.Prelude.{◌||◌, if◌then◌else◌, map}
+use Rattle.std.specs.Prelude.{◌||◌, if◌then◌else◌, map, filter, Option, is_some}
 use Rattle.std.proofs.lemmas.Bool.{or_parts}
 use Rattle.std.proofs.lemmas.List.{append-nil}
 use Rattle.iasl_messages.specs.declared.place.Place.{Place}
@@ -8,8 +8,8 @@ use Rattle.acpi_values.specs.Paths.{AbsolutePath}
 use Rattle.acpi_state.specs.Objects.{lookup}
 use Rattle.asl_tree.specs.declared.path.Path.{Path}
 use Rattle.asl_tree.specs.declared.term.NamedDescriptor.{NamedDescriptor}
-use Rattle.acpi_names.specs.Errors.{name_errors, type_errors}
-use Rattle.acpi_names.specs.Mentions.{Mention}
+use Rattle.acpi_names.specs.Errors.{name_errors, type_errors, whole_of}
+use Rattle.acpi_names.specs.Mentions.{Mention, all_errors, all_types}
 use Rattle.acpi_names.specs.Terms.{are_terms}
 use Rattle.asl_numbers.specs.Numbers.{inside, nodes, numbered_all}
 use Rattle.asl_shape.specs.Plans.{Plan, a_fill, a_name, a_call, a_form, Plans, no_plans, plan, plan_at, join}
@@ -19,10 +19,76 @@ use Rattle.descriptor_fields.specs.Declaring.{has_terms, names_inside, names_amo
 use Rattle.descriptor_fields.specs.Values.{Among, Arguments, Contents, OfCall, is_value_in, is_in_bits}
 use Rattle.descriptor_fields.specs.Constants.{resolved_use, broken_use, resolved, resolved_from, broken, broken_from}
 use Rattle.descriptor_fields.specs.Nodes.{named_in, named_from}
-use Rattle.descriptor_checks.specs.Resolved.{described_by, described, mentions_of, names_of, table_of, fields_of, checked_terms, broken_fields, resolved_terms}
-use Rattle.descriptor_checks.specs.Told.{below_errors, all_below, names_wrong, fields_wrong, kinds_wrong, owners_of, names_told, kinds_told}
-use Rattle.descriptor_shapes.proofs.Each.{each_of}
-use Rattle.descriptor_shapes.proofs.Untold.{IsOfNone, are_nothing, HaveNone, names_are, kinds_are}
+use Rattle.descriptor_checks.specs.Resolved.{described_by, described, mentions_of, names_of, table_of, fields_of, checked_terms, broken_fields, resolved_terms, described_paths, fields_by, fields_in}
+use Rattle.descriptor_checks.specs.Told.{below_errors, all_below, names_wrong, fields_wrong, kinds_wrong, owners_of, names_told, kinds_told, sense_in, is_no_field, is_of_no_descriptor, all_field_errors, use_faults, all_use_faults}
+use Rattle.descriptor_checks.specs.Told.{field_owners}
+use Rattle.descriptor_shapes.proofs.Each.{each_of, Each}
+use Rattle.asl_meaning.specs.Declarations.{nothing_declared}
+use Rattle.acpi_names.proofs.MentionErrors.{block_errors}
+use Rattle.acpi_names.proofs.MentionTypes.{block_types}
+use Rattle.descriptor_checks.specs.Senses.{Nothing}
+use Rattle.unused_names.proofs.Errors.{left_none, right_none}
+
+-- ---- mentions of none
+
+module _ (has : AbsolutePath → Bool) (look : AbsolutePath → Option NamedDescriptor) where
+  abbrev pub IsOfNone : Mention → Type 0
+  IsOfNone m = sense_in has look m ≡ Nothing
+
+  -- all are kept where fields or descriptors are left out, and nothing is told of them
+  pub record AreNothing (ms : List Mention) : Type 0 where
+    pub no_fields : filter (is_no_field has look) ms ≡ ms
+    pub no_descriptors : filter (is_of_no_descriptor has look) ms ≡ ms
+    pub fields : fields_in has look ms ≡ []
+    pub errors : all_field_errors has look ms ≡ []
+    pub faults : all_use_faults has look ms ≡ []
+    pub owners : field_owners has look ms ≡ []
+
+  fields_none : (m : Mention) → IsOfNone m → fields_by has look m ≡ []
+  fields_none m h = grind arith
+
+  pub are_nothing : (ms : List Mention) → Each IsOfNone ms → AreNothing ms
+  are_nothing [] h = record { no_fields = refl; no_descriptors = refl; fields = refl; errors = refl; faults = refl; owners = refl }
+  are_nothing (m ∷ ms) h =
+      let k : AreNothing ms = are_nothing ms h.1 in
+      record {
+        no_fields = rw (h.0, k.no_fields);
+        no_descriptors = rw (h.0, k.no_descriptors);
+        fields = rw (fields_none m h.0) k.fields;
+        errors = rw h.0 k.errors;
+        faults = rw h.0 k.faults;
+        owners = rw h.0 k.owners;
+      }
+
+  -- a use of a descriptor and of a field of one has a fault
+  no_sense : (m : Mention) → use_faults has look m ≡ [] → IsOfNone m
+  no_sense m e = grind arith
+
+  pub no_senses : (ms : List Mention) → all_use_faults has look ms ≡ [] → Each (IsOfNone) ms
+  no_senses [] e = tt
+  no_senses (m ∷ ms) e =
+      (no_sense m (left_none (use_faults has look m) (all_use_faults has look ms) e), no_senses ms (right_none (use_faults has look m) (all_use_faults has look ms) e))
+
+-- ---- terms of which this holds
+
+module _ (ps : Plans) where
+  abbrev pub HaveNone : Type 0
+  HaveNone = AreNothing (names_of ps) (table_of ps) (mentions_of ps)
+
+  pub names_are : HaveNone → are_terms (numbered_all 0 ps) ≡ true → names_wrong ps ≡ name_errors (numbered_all 0 ps) ++ all_below (table_of ps) (mentions_of ps)
+  names_are none are =
+      let whole = whole_of (numbered_all 0 ps) in
+      ap (λ ms. all_errors whole ms nothing_declared ++ all_below (table_of ps) (mentions_of ps)) none.no_fields
+      ∙ ap (λ es. es ++ all_below (table_of ps) (mentions_of ps)) (sym (block_errors whole (numbered_all 0 ps) are [] nothing_declared))
+
+  pub kinds_are : HaveNone → are_terms (numbered_all 0 ps) ≡ true → name_errors (numbered_all 0 ps) ≡ [] → kinds_wrong ps ≡ map message_of (type_errors (numbered_all 0 ps))
+  kinds_are none are right =
+      let whole = whole_of (numbered_all 0 ps) in
+      ap (λ ms. map message_of (all_types whole ms) ++ all_use_faults (names_of ps) (table_of ps) (mentions_of ps)) none.no_descriptors
+      ∙ ap (λ ms. map message_of (all_types whole (mentions_of ps)) ++ ms) none.faults ∙ append-nil (map message_of (all_types whole (mentions_of ps)))
+      ∙ ap (map message_of) (sym (block_types whole (numbered_all 0 ps) are [] nothing_declared right))
+
+-- ---- a block in which no descriptor has a name
 
 either : {A : Type 0} (b : Bool) (x : A) → (if b then x else x) ≡ x
 either b x = grind arith
@@ -30,7 +96,7 @@ either b x = grind arith
 beside_none : (b : Bool) (place : Place) (p : Plan) (ps : Plans) → join (beside b no_plans (alone place p)) ps ≡ plan place p ps
 beside_none b place p ps = grind arith
 
--- ---- no names: the terms stay, and none declares a descriptor
+-- no names: the terms stay, and none declares a descriptor
 
 abbrev IsBare : Plan → Type 0
 IsBare p = (names_inside p ≡ []) × (opened p ≡ p) × (closed p ≡ p) × (declared_by p ≡ []) × (named_of p ≡ []) × ((next : ℕ) → named_in next p ≡ [])
@@ -75,7 +141,7 @@ none_described (m ∷ ms) = rw (none_by m) (none_described ms)
 abbrev no_descriptor : AbsolutePath → Option NamedDescriptor
 no_descriptor path = None
 
--- ---- no mention is of a descriptor
+-- no mention is of a descriptor
 
 mention_none : (has : AbsolutePath → Bool) (m : Mention) → IsOfNone has no_descriptor m
 mention_none has m = grind arith
@@ -87,7 +153,7 @@ no_below : (ms : List Mention) → all_below no_descriptor ms ≡ []
 no_below [] = refl
 no_below (m ∷ ms) = rw (declared_below m) (no_below ms)
 
--- ---- no field is a constant
+-- no field is a constant
 
 use_same : (bits value : Bool) (name : Path) (place : Place) → (resolved_use bits value name None ≡ a_name name) × (broken_use bits value place None ≡ [])
 use_same bits value name place = (grind arith, grind arith)
@@ -128,6 +194,9 @@ module _ (ps : Plans) (e : names_descriptors ps ≡ false) where
 
   pub unnamed_checked : checked_terms ps ≡ ps
   unnamed_checked = ap (λ fields. resolved_from fields OfCall 0 false 0 (declaring ps)) unnamed_fields ∙ (all_same OfCall 0 false 0 (declaring ps)).0 ∙ bare.1
+
+  pub unnamed_paths : described_paths ps ≡ (λ path. false)
+  unnamed_paths = ap {B = AbsolutePath → Bool} (λ qs path. is_some (table_of qs path)) unnamed_checked ∙ ap {B = AbsolutePath → Bool} (λ look path. is_some (look path)) table_none
 
   pub unnamed_resolved : resolved_terms ps ≡ ps
   unnamed_resolved = ap stripped unnamed_checked ∙ bare.2

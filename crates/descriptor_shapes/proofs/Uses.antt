@@ -7,14 +7,13 @@ use Rattle.asl_tree.specs.declared.path.Path.{Path}
 use Rattle.asl_tree.specs.declared.term.Op.{Op}
 use Rattle.asl_tree.specs.declared.term.Word.{Word}
 use Rattle.asl_tree.specs.Tree.{At}
-use Rattle.asl_shape.specs.Plans.{Plan, an_integer, a_text, a_fill, a_word, a_local, an_arg, debug, omitted, a_name, a_unit, a_skip}
-use Rattle.asl_shape.specs.Plans.{an_offset, an_access, a_call, a_form, Plans, no_plans, plan}
+use Rattle.asl_shape.specs.Plans.{Plan, a_word, a_name, a_call, a_form, Plans, no_plans, plan}
 use Rattle.asl_numbers.specs.Numbers.{inside, nodes, numbered, numbered_all}
 use Rattle.descriptor_fields.specs.Values.{Among, Arguments, Contents, OfCall, is_value_in, is_in_bits}
 use Rattle.descriptor_fields.specs.Constants.{resolved_use, resolved, resolved_from}
 use Rattle.descriptor_fields.specs.Nodes.{at_node}
 use Rattle.descriptor_shapes.proofs.Like.{Like, LikeInteger, LikeString, LikeSlot, LikeDebug, LikeOmitted, LikeFill, LikeItem, LikeUse, Counted, LikeCall, SameUnit, SameSkip, SameOffset, SameAccess, LikeFrom, NoneFrom, MoreFrom}
-use Rattle.descriptor_shapes.proofs.Forms.{form_like}
+use Rattle.descriptor_shapes.proofs.Like.{form_like}
 
 -- ---- the second of two plans is the first one, but that names that are expressions may be words; each term stands at a place of some kind
 
@@ -69,21 +68,8 @@ module _ (Stands : Place → Type 0) where
     unfolding numbered numbered_all
 
     pub like : {value : Bool} {p q : Plan} (at to : At) (next more : ℕ) → Stands at.place → Resolves Stands value p q → Like Stands value (numbered at next p) (numbered to more q)
-    like at to next more h (Stays (an_integer number) leaf) = LikeInteger number
-    like at to next more h (Stays (a_text bytes) leaf) = LikeString bytes
-    like at to next more h (Stays (a_fill bytes named) leaf) = LikeFill bytes
-    like at to next more h (Stays (a_word word) leaf) = LikeInteger (word_number word)
-    like at to next more h (Stays (a_local index) leaf) = LikeSlot _
-    like at to next more h (Stays (an_arg index) leaf) = LikeSlot _
-    like at to next more h (Stays debug leaf) = LikeDebug
-    like at to next more h (Stays omitted leaf) = LikeOmitted
     like at to next more h (Stays (a_name name) leaf) = LikeUse name h
-    like at to next more h (Stays (a_unit segment n) leaf) = LikeItem (SameUnit segment n h)
-    like at to next more h (Stays (a_skip n) leaf) = LikeItem (SameSkip n)
-    like at to next more h (Stays (an_offset n) leaf) = LikeItem (SameOffset n)
-    like at to next more h (Stays (an_access access attribute count) leaf) = LikeItem (SameAccess access attribute count)
-    like at to next more h (Stays (a_call name args) leaf) = absurd leaf
-    like at to next more h (Stays (a_form op args body) leaf) = absurd leaf
+    like at to next more h (Stays _ leaf) = search (LikeInteger, LikeString, LikeSlot, LikeDebug, LikeOmitted, LikeFill, LikeItem, SameUnit, SameSkip, SameOffset, SameAccess)
     like at to next more h (Becomes name word) = Counted name (word_number word) h
     like at to next more h (InCall name args) = LikeCall name h (all_like next more args)
     like at to next more h (InForm op {args = args} {others = others} given body) =

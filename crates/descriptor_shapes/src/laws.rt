@@ -17,6 +17,7 @@ ghost use Rattle.named_sessions.specs.Shaped.{AreNamed, AreFormed};
 ghost use Rattle.descriptor_fields.specs.Declaring.{declaring, names_descriptors};
 ghost use Rattle.descriptor_checks.specs.Senses.{Nothing};
 ghost use Rattle.descriptor_checks.specs.Resolved.{mentions_of, names_of, table_of, checked_terms, broken_fields, resolved_terms};
+ghost use Rattle.descriptor_checks.specs.Resolved.{described_paths};
 ghost use Rattle.descriptor_checks.specs.Told.{sense_in, all_below, owners_of, checked_trees, names_told, kinds_told};
 ghost use Rattle.stripped_names.specs.Whole.{AreWhole};
 ghost use Rattle.descriptor_shapes.specs.Places.{PlansWithin};
@@ -29,12 +30,13 @@ pub fn resolved_are_formed()
         are_terms (checked_trees ps) ≡ true }
 {}
 
-/// Where no descriptor has a name the terms stay as they are, no field of one is used, and what is told of names is what
-/// is told of them without descriptors; of kinds and counts, where nothing is wrong with names.
+/// Where no descriptor has a name the terms stay as they are, no field of one is used, no path is that of one, and what is told of
+/// names is what is told of them without descriptors; of kinds and counts, where nothing is wrong with names.
 pub fn unnamed_stay()
     ensures checked { (ps : Plans) → names_descriptors ps ≡ false → checked_terms ps ≡ ps }
     ensures resolved { (ps : Plans) → names_descriptors ps ≡ false → resolved_terms ps ≡ ps }
     ensures fields { (ps : Plans) → names_descriptors ps ≡ false → broken_fields ps ≡ [] }
+    ensures paths { (ps : Plans) → names_descriptors ps ≡ false → (path : AbsolutePath) → described_paths ps path ≡ false }
     ensures owners { (ps : Plans) → names_descriptors ps ≡ false → owners_of (declaring ps) ≡ [] }
     ensures names { (ps : Plans) → names_descriptors ps ≡ false → are_terms (numbered_all 0 ps) ≡ true →
         names_told ps ≡ map message_of (name_errors (numbered_all 0 ps)) }

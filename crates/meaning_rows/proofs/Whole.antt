@@ -189,7 +189,7 @@ abbrev table : List ℕ
 table = table_bytes fields (encoded_all W64 true (core_of false program))
 
 pub faithful_table : IsFaithful W64 (known_of program) (externals program) program table
-faithful_table = is_faithful false W64 true program table is_shaped refl refl refl (omega arith) refl
+faithful_table = is_faithful false (λ path. false) W64 true program table is_shaped refl refl refl (omega arith) refl
 
 abbrev number : ℕ → Value
 number n = Data (V.Integer n)

@@ -38,15 +38,15 @@ operands_first (L.Raw size) letters t ts = refl
 operands_first Valued letters Omitted ts = refl
 operands_first letter letters t ts = refl
 
-module _ (shorten : Bool) (has : AbsolutePath → Bool) (says : AbsolutePath → ExternalType → ExternalType) (scope : AbsolutePath) where
+module _ (shorten : Bool) (also has : AbsolutePath → Bool) (says : AbsolutePath → ExternalType → ExternalType) (scope : AbsolutePath) where
   abbrev spells : Tree → Tree
-  spells t = spelled shorten has says t scope
+  spells t = spelled shorten also has says t scope
 
   abbrev spells_all : Trees → Trees
-  spells_all ts = spelled_all shorten has says ts scope
+  spells_all ts = spelled_all shorten also has says ts scope
 
   abbrev spells_elements : Trees → Trees
-  spells_elements ts = spelled_elements shorten has says ts scope
+  spells_elements ts = spelled_elements shorten also has says ts scope
 
   spelled_first : (letter : Letter) (t : Tree) → spells (first_operand letter t) ≡ first_operand letter (spells t)
   spelled_first (L.Raw size) (Integer number) = refl
@@ -95,7 +95,7 @@ module _ (shorten : Bool) (has : AbsolutePath → Bool) (says : AbsolutePath →
   -- a symbol's form, by whether its arguments fit
   abbrev symbol_form : At → Plain → Trees → Bool → Tree
   symbol_form at op args fit =
-      form at (Op.Symbolic (Symbolic.Operator op)) (value_args shorten has says (fitting_value fit (V.Operator op)) args scope) (value_body shorten has says (fitting_value fit (V.Operator op)) no_trees scope)
+      form at (Op.Symbolic (Symbolic.Operator op)) (value_args shorten also has says (fitting_value fit (V.Operator op)) args scope) (value_body shorten also has says (fitting_value fit (V.Operator op)) no_trees scope)
 
   spelled_symbol : (at : At) (op : Plain) (args : Trees) → spells (symbol_of op args) ≡ symbol_form at op args (fits (row_of op).operands args)
   spelled_symbol at op args = by_fit (fits (row_of op).operands args) refl
@@ -134,9 +134,9 @@ module _ (shorten : Bool) (has : AbsolutePath → Bool) (says : AbsolutePath →
 
   -- the items of a field's body are spelled where its trees are
   abbrev spelled_list : Option (List (FieldItem UnitName)) → Option (List (FieldItem UnitName))
-  spelled_list o = choose o None (λ items. Some (items_spelled shorten has items scope))
+  spelled_list o = choose o None (λ items. Some (items_spelled shorten also has items scope))
 
-  item_spelled_in : (t : Tree) → item_in (spells t) ≡ choose (item_in t) None (λ item. Some (item_spelled shorten has item scope))
+  item_spelled_in : (t : Tree) → item_in (spells t) ≡ choose (item_in t) None (λ item. Some (item_spelled shorten also has item scope))
   item_spelled_in (Item item) = refl
   item_spelled_in (Use at name) = refl
   item_spelled_in (Fill bytes) = refl
@@ -146,16 +146,16 @@ module _ (shorten : Bool) (has : AbsolutePath → Bool) (says : AbsolutePath →
   items_spelled_in no_trees = refl
   items_spelled_in (tree t ts) =
       ap (λ o. choose o None (λ item. choose (items_in (spells_all ts)) None (λ items. Some (item ∷ items)))) (item_spelled_in t)
-      ∙ ap (λ o. choose (choose (item_in t) None (λ item. Some (item_spelled shorten has item scope))) None (λ item. choose o None (λ items. Some (item ∷ items)))) (items_spelled_in ts)
+      ∙ ap (λ o. choose (choose (item_in t) None (λ item. Some (item_spelled shorten also has item scope))) None (λ item. choose o None (λ items. Some (item ∷ items)))) (items_spelled_in ts)
       ∙ joined (item_in t) (items_in ts)
     where
       joined : (o : Option (FieldItem UnitName)) (p : Option (List (FieldItem UnitName))) →
-          choose (choose o None (λ item. Some (item_spelled shorten has item scope))) None (λ item. choose (spelled_list p) None (λ items. Some (item ∷ items))) ≡ spelled_list (choose o None (λ item. choose p None (λ items. Some (item ∷ items))))
+          choose (choose o None (λ item. Some (item_spelled shorten also has item scope))) None (λ item. choose (spelled_list p) None (λ items. Some (item ∷ items))) ≡ spelled_list (choose o None (λ item. choose p None (λ items. Some (item ∷ items))))
       joined None p = refl
       joined (Some item) None = refl
       joined (Some item) (Some items) = refl
 
-  by_items : (body : Trees) (made more : List (FieldItem UnitName) → Tree) → ((items : List (FieldItem UnitName)) → spells (made items) ≡ more (items_spelled shorten has items scope)) → spells (choose (items_in body) Misshapen made) ≡ choose (items_in (spells_all body)) Misshapen more
+  by_items : (body : Trees) (made more : List (FieldItem UnitName) → Tree) → ((items : List (FieldItem UnitName)) → spells (made items) ≡ more (items_spelled shorten also has items scope)) → spells (choose (items_in body) Misshapen made) ≡ choose (items_in (spells_all body)) Misshapen more
   by_items body made more h = by_option (items_in body) ∙ ap (λ o. choose o Misshapen more) (sym (items_spelled_in body))
     where
       by_option : (o : Option (List (FieldItem UnitName))) → spells (choose o Misshapen made) ≡ choose (spelled_list o) Misshapen more
@@ -163,7 +163,7 @@ module _ (shorten : Bool) (has : AbsolutePath → Bool) (says : AbsolutePath →
       by_option (Some items) = h items
 
   pub spelled_form : ((path : AbsolutePath) (e : ExternalType) → (says path e).parameters ≡ Some (number_or_zero (says path e).parameters)) → (at : At) (op : Op) (args body : Trees)
-      → spells (form at op args body) ≡ form at op (part_args shorten has says (part_of op args body) (value_form_of op args body) args scope) (part_body shorten has says (part_of op args body) (value_form_of op args body) args body scope)
+      → spells (form at op args body) ≡ form at op (part_args shorten also has says (part_of op args body) (value_form_of op args body) args scope) (part_body shorten also has says (part_of op args body) (value_form_of op args body) args body scope)
   spelled_form told here (Op.Declaration Declaration.Name) (tree (Use at name) (tree value no_trees)) no_trees = refl
   spelled_form told here (Op.Declaration Declaration.Alias) (tree (Use from source) (tree (Use at name) no_trees)) no_trees = refl
   spelled_form told here (Op.Declaration Declaration.External) (tree (Use at name) (tree (Integer type) no_trees)) no_trees = ap (λ p. External here at name (says (declared_path name scope) (external_type type None)).type p) (told (declared_path name scope) (external_type type None))
@@ -177,9 +177,10 @@ module _ (shorten : Bool) (has : AbsolutePath → Bool) (says : AbsolutePath →
   spelled_form told here (Op.Declaration Declaration.Processor) (tree (Use at name) (tree (Integer number) (tree (Integer address) (tree (Integer size) no_trees)))) body = refl
   spelled_form told here (Op.Declaration Declaration.Scope) (tree (Use at name) no_trees) body = refl
   spelled_form told here (Op.Declaration Declaration.OperationRegion) (tree (Use at name) (tree (Integer space) (tree offset (tree size no_trees)))) no_trees = refl
-  spelled_form told here (Op.Declaration Declaration.Field) (tree (Use from region) (tree (Integer flags) no_trees)) body = by_items body (λ items. Field here from region flags items) (λ items. Field here from (spelled_use has shorten region scope) flags items) (λ items. refl)
-  spelled_form told here (Op.Declaration Declaration.IndexField) (tree (Use from index) (tree (Use to register) (tree (Integer flags) no_trees))) body = by_items body (λ items. IndexField here from index to register flags items) (λ items. IndexField here from (spelled_use has shorten index scope) to (spelled_use has shorten register scope) flags items) (λ items. refl)
-  spelled_form told here (Op.Declaration Declaration.BankField) (tree (Use from region) (tree (Use to bank) (tree value (tree (Integer flags) no_trees)))) body = by_items body (λ items. BankField here from region to bank value flags items) (λ items. BankField here from (spelled_use has shorten region scope) to (spelled_use has shorten bank scope) (spells value) flags items) (λ items. refl)
+  spelled_form told here (Op.Declaration Declaration.Field) (tree (Use from region) (tree (Integer flags) no_trees)) body = by_items body (λ items. Field here from region flags items) (λ items. Field here from (spelled_use also has shorten region scope) flags items) (λ items. refl)
+  spelled_form told here (Op.Declaration Declaration.IndexField) (tree (Use from index) (tree (Use to register) (tree (Integer flags) no_trees))) body = by_items body (λ items. IndexField here from index to register flags items) (λ items. IndexField here from (spelled_use also has shorten index scope) to (spelled_use also has shorten register scope) flags items) (λ items. refl)
+  spelled_form told here (Op.Declaration Declaration.BankField) (tree (Use from region) (tree (Use to bank) (tree value (tree (Integer flags) no_trees)))) body =
+      by_items body (λ items. BankField here from region to bank value flags items) (λ items. BankField here from (spelled_use also has shorten region scope) to (spelled_use also has shorten bank scope) (spells value) flags items) (λ items. refl)
   spelled_form told here (Op.Declaration Declaration.CreateField) (tree source (tree index (tree bits (tree (Use at name) no_trees)))) no_trees = refl
   spelled_form told here (Op.Declaration Declaration.CreateBitField) (tree source (tree index (tree (Use at name) no_trees))) no_trees = refl
   spelled_form told here (Op.Declaration Declaration.CreateByteField) (tree source (tree index (tree (Use at name) no_trees))) no_trees = refl

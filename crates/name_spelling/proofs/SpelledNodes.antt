@@ -55,37 +55,37 @@ another t unnamed not_call not_form = by_layer (D.out-Term t) (sym (D.roll-out-T
     by_layer (D.Term-F.Offset n) e = ap term_shape (e ∙ V.rolls-Offset n)
     by_layer (D.Term-F.Access access attribute count) e = ap term_shape (e ∙ V.rolls-Access access attribute count)
 
-module _ (shorten : Bool) (has : AbsolutePath → Bool) (says : AbsolutePath → ExternalType → ExternalType) (at : At) (scope : AbsolutePath) where
-  pub name_spelled : (t : Term) (path new : Path) → t ≡ D.Name path → new ≡ spelled_use has shorten path scope → tree_of at (D.Name new) ≡ spelled shorten has says (tree_of at t) scope
+module _ (shorten : Bool) (also has : AbsolutePath → Bool) (says : AbsolutePath → ExternalType → ExternalType) (at : At) (scope : AbsolutePath) where
+  pub name_spelled : (t : Term) (path new : Path) → t ≡ D.Name path → new ≡ spelled_use also has shorten path scope → tree_of at (D.Name new) ≡ spelled shorten also has says (tree_of at t) scope
   unfolding tree_of
-  name_spelled t path new e same = ap (Use at) same ∙ sym (ap (λ t. spelled shorten has says (tree_of at t) scope) e)
+  name_spelled t path new e same = ap (Use at) same ∙ sym (ap (λ t. spelled shorten also has says (tree_of at t) scope) e)
 
   pub element_named : (t : Term) (path new : Path) (other : Tree) → t ≡ D.Name path → new ≡ spelled_item has shorten path scope → tree_of at (D.Name new) ≡ element_spelled shorten has (tree_of at t) other scope
   unfolding tree_of
   element_named t path new other e same = ap (Use at) same ∙ sym (ap (λ t. element_spelled shorten has (tree_of at t) other scope) e)
 
-  pub name_kept : (t : Term) (path : Path) → t ≡ D.Name path → path ≡ spelled_use has shorten path scope → tree_of at t ≡ spelled shorten has says (tree_of at t) scope
+  pub name_kept : (t : Term) (path : Path) → t ≡ D.Name path → path ≡ spelled_use also has shorten path scope → tree_of at t ≡ spelled shorten also has says (tree_of at t) scope
   name_kept t path e same = ap (tree_of at) e ∙ name_spelled t path path e same
 
   pub element_kept : (t : Term) (path : Path) (other : Tree) → t ≡ D.Name path → path ≡ spelled_item has shorten path scope → tree_of at t ≡ element_spelled shorten has (tree_of at t) other scope
   element_kept t path other e same = ap (tree_of at) e ∙ element_named t path path other e same
 
-  pub call_spelled : (t : Term) (path new : Path) (args more : Vec Node Global) → t ≡ D.Call path args → new ≡ spelled_use has shorten path scope → trees_of more.items ≡ spelled_all shorten has says (trees_of args.items) scope → tree_of at (D.Call new more) ≡ spelled shorten has says (tree_of at t) scope
+  pub call_spelled : (t : Term) (path new : Path) (args more : Vec Node Global) → t ≡ D.Call path args → new ≡ spelled_use also has shorten path scope → trees_of more.items ≡ spelled_all shorten also has says (trees_of args.items) scope → tree_of at (D.Call new more) ≡ spelled shorten also has says (tree_of at t) scope
   call_spelled t path new args more e same spelt =
-      call_tree at new more ∙ ap (λ p. Call at p (trees_of more.items)) same ∙ ap (Call at (spelled_use has shorten path scope)) spelt
-      ∙ sym (ap (λ t. spelled shorten has says (tree_of at t) scope) e ∙ ap (λ t. spelled shorten has says t scope) (call_tree at path args))
+      call_tree at new more ∙ ap (λ p. Call at p (trees_of more.items)) same ∙ ap (Call at (spelled_use also has shorten path scope)) spelt
+      ∙ sym (ap (λ t. spelled shorten also has says (tree_of at t) scope) e ∙ ap (λ t. spelled shorten also has says t scope) (call_tree at path args))
 
   pub form_spelled : ((path : AbsolutePath) (e : ExternalType) → (says path e).parameters ≡ Some (number_or_zero (says path e).parameters)) → (t : Term) (op : Op) (args body more others : Vec Node Global) → t ≡ D.Form op args body
-      → trees_of more.items ≡ part_args shorten has says (part_of op (trees_of args.items) (trees_of body.items)) (value_form_of op (trees_of args.items) (trees_of body.items)) (trees_of args.items) scope
-      → trees_of others.items ≡ part_body shorten has says (part_of op (trees_of args.items) (trees_of body.items)) (value_form_of op (trees_of args.items) (trees_of body.items)) (trees_of args.items) (trees_of body.items) scope → tree_of at (D.Form op more others) ≡ spelled shorten has says (tree_of at t) scope
+      → trees_of more.items ≡ part_args shorten also has says (part_of op (trees_of args.items) (trees_of body.items)) (value_form_of op (trees_of args.items) (trees_of body.items)) (trees_of args.items) scope
+      → trees_of others.items ≡ part_body shorten also has says (part_of op (trees_of args.items) (trees_of body.items)) (value_form_of op (trees_of args.items) (trees_of body.items)) (trees_of args.items) (trees_of body.items) scope → tree_of at (D.Form op more others) ≡ spelled shorten also has says (tree_of at t) scope
   form_spelled told t op args body more others e spelt inside =
       form_tree at op more others
       ∙ ap (λ ts. form at op ts (trees_of others.items)) spelt
-      ∙ ap (form at op (part_args shorten has says (part_of op (trees_of args.items) (trees_of body.items)) (value_form_of op (trees_of args.items) (trees_of body.items)) (trees_of args.items) scope)) inside
-      ∙ sym (ap (λ t. spelled shorten has says (tree_of at t) scope) e ∙ ap (λ t. spelled shorten has says t scope) (form_tree at op args body)
-      ∙ spelled_form shorten has says scope told at op (trees_of args.items) (trees_of body.items))
+      ∙ ap (form at op (part_args shorten also has says (part_of op (trees_of args.items) (trees_of body.items)) (value_form_of op (trees_of args.items) (trees_of body.items)) (trees_of args.items) scope)) inside
+      ∙ sym (ap (λ t. spelled shorten also has says (tree_of at t) scope) e ∙ ap (λ t. spelled shorten also has says t scope) (form_tree at op args body)
+      ∙ spelled_form shorten also has says scope told at op (trees_of args.items) (trees_of body.items))
 
-  pub another_spelled : (t : Term) → term_shape t ≡ Another → tree_of at t ≡ spelled shorten has says (tree_of at t) scope
+  pub another_spelled : (t : Term) → term_shape t ≡ Another → tree_of at t ≡ spelled shorten also has says (tree_of at t) scope
   unfolding tree_of
   another_spelled (D.Name path) e = absurd (grind arith)
   another_spelled (D.Call' path shape args) e = absurd (grind arith)

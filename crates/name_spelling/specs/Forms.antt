@@ -3,7 +3,8 @@ use Rattle.std.specs.Prelude.{ℕ, ◌+◌, Bool, false, ◌&&◌, ◌||◌, nat
 use Rattle.acpi_values.specs.Paths.{NameSeg, AbsolutePath}
 use Rattle.asl_tree.specs.declared.path.Path.{Path as Name}
 use Rattle.asl_tree.specs.Names.{enclosing}
-use Rattle.acpi_names.specs.Shortest.{segments_length, leads_to}
+use Rattle.acpi_names.specs.Paths.{is_named_in}
+use Rattle.acpi_names.specs.Shortest.{segments_length, leads_to, met}
 use Rattle.name_spelling.specs.declared.form.Form.{Form}
 
 -- the name of a path in a form
@@ -29,3 +30,7 @@ module _ (has : AbsolutePath → Bool) where
   abbrev pub leads_alone : AbsolutePath → AbsolutePath → Bool
   leads_alone [] scope = false
   leads_alone (seg ∷ outer) scope = leads_to has (seg ∷ outer) scope (record { root = false; up = 0; segs = seg ∷ [] })
+
+-- what may stand in the way of a name, by the flags of the paths that are named and of others besides
+abbrev pub met_in : List AbsolutePath → (named also : List Bool) → AbsolutePath → Bool
+met_in paths named also = met (is_named_in paths also) (is_named_in paths named)

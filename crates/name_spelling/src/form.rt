@@ -1,13 +1,13 @@
 //! The shortest spelling of a path in a scope (ACPI Specification 6.4, 5.3 and 20.2.2).
-ghost use Rattle.std.specs.Prelude.{◌≡◌, ◌<◌, ◌≤◌, ◌^◌, Bool, true, [], length, get_or, is_some, IfOk};
+ghost use Rattle.std.specs.Prelude.{◌≡◌, ◌<◌, ◌≤◌, ◌^◌, ◌||◌, Bool, true, false, [], length, get_or, is_some, IfOk, IfSome};
 ghost use Rattle.acpi_values.specs.Paths.{AbsolutePath};
-ghost use Rattle.acpi_names.specs.Paths.{is_named_in};
+ghost use Rattle.acpi_names.specs.Paths.{path_with};
 ghost use Rattle.acpi_names.specs.Shortest.{segments_length, short_use, short_element};
-ghost use Rattle.asl_tree.specs.Names.{candidates, first_of};
-ghost use Rattle.name_spelling.specs.Forms.{form_name, form_length, nearer, around, leads_alone};
+ghost use Rattle.asl_tree.specs.Names.{enclosing, candidates, first_of};
+ghost use Rattle.name_spelling.specs.Forms.{form_name, form_length, nearer, around, leads_alone, met_in};
 
 use acpi_names::lookup::outer;
-use acpi_names::paths::{Paths, nearest};
+use acpi_names::paths::Paths;
 use asl_tree::path::{NameSeg, Path, Segs};
 use std::alloc::{AllocError, Global};
 
@@ -100,32 +100,81 @@ pub(crate) fn shortest_placed(paths: &Paths, number: usize, scope: usize) -> For
     best
 }
 
-// Whether a search for a segment finds a named path in the scopes around this one.
-fn is_found_around(paths: &Paths, named: &[bool], scope: usize, segment: NameSeg) -> bool
+// Whether the path with a number stands in the way of a name: it is named, or it is one of the others.
+fn is_met(named: &[bool], also: &[bool], number: usize) -> bool
+    requires { number < length named.now }
+    ensures { result ≡ (get_or named.now number false || get_or also.now number false) }
+{
+    named[number] || (number < also.len() && also[number])
+}
+
+// The nearest of such paths that are this segment in a scope or in a scope around it.
+fn nearest_met(
+    paths: &Paths,
+    named: &[bool],
+    also: &[bool],
+    scope: usize,
+    segment: NameSeg,
+) -> Option<usize>
     requires scope_in { scope < length paths.now }
     requires all { length named.now ≡ length paths.now }
-    ensures { result ≡ is_some (first_of (candidates (is_named_in paths.now named.now) (around segment (get_or paths.now scope [])))) }
+    ensures within { IfSome result (λ n. n < length paths.now) }
+    ensures path { path_with paths.now result ≡ first_of
+        (candidates (met_in paths.now named.now also.now) (enclosing segment (get_or paths.now scope []))) }
+{
+    let mut around = scope;
+    loop {
+        if let Some(number) = paths.child(around, segment) {
+            if is_met(named, also, number) {
+                return Some(number);
+            }
+        }
+        match paths.step(around) {
+            Some((parent, _)) => around = parent,
+            None => return None,
+        }
+    }
+}
+
+// Whether a search for a segment meets a path in the scopes around this one.
+fn is_met_around(
+    paths: &Paths,
+    named: &[bool],
+    also: &[bool],
+    scope: usize,
+    segment: NameSeg,
+) -> bool
+    requires scope_in { scope < length paths.now }
+    requires all { length named.now ≡ length paths.now }
+    ensures { result ≡ is_some (first_of (candidates (met_in paths.now named.now also.now) (around segment (get_or paths.now scope [])))) }
 {
     match paths.step(scope) {
-        Some(below) => nearest(paths, named, below.0, segment).is_some(),
+        Some(below) => nearest_met(paths, named, also, below.0, segment).is_some(),
         None => false,
     }
 }
 
-// Whether a search for a path's last segment can find that path alone.
-fn is_found_alone(paths: &Paths, named: &[bool], number: usize, scope: usize) -> bool
+/// Whether a search for a path's last segment can find that path alone: it is the only one that is met. `named` says of each number
+/// whether its path is named, and `also` of the first numbers whether their paths stand in the way all the same.
+pub(crate) fn is_found_alone(
+    paths: &Paths,
+    named: &[bool],
+    also: &[bool],
+    number: usize,
+    scope: usize,
+) -> bool
     requires path_in { number < length paths.now }
     requires scope_in { scope < length paths.now }
     requires all { length named.now ≡ length paths.now }
-    ensures { result ≡ leads_alone (is_named_in paths.now named.now) (get_or paths.now number []) (get_or paths.now scope []) }
+    ensures { result ≡ leads_alone (met_in paths.now named.now also.now) (get_or paths.now number []) (get_or paths.now scope []) }
 {
     let len = paths.len();
     match paths.step(number) {
         Some(below) => {
             let segment = below.1;
-            match nearest(paths, named, scope, segment) {
+            match nearest_met(paths, named, also, scope, segment) {
                 Some(first) => {
-                    first == number && !is_found_around(paths, named, below.0, segment)
+                    first == number && !is_met_around(paths, named, also, below.0, segment)
                 }
                 None => false,
             }
@@ -134,16 +183,22 @@ fn is_found_alone(paths: &Paths, named: &[bool], number: usize, scope: usize) ->
     }
 }
 
-/// The shortest form of a named path.
-pub(crate) fn shortest_used(paths: &Paths, named: &[bool], number: usize, scope: usize) -> Form
+/// The shortest form of a path that is met.
+pub(crate) fn shortest_used(
+    paths: &Paths,
+    named: &[bool],
+    also: &[bool],
+    number: usize,
+    scope: usize,
+) -> Form
     requires path_in { number < length paths.now }
     requires scope_in { scope < length paths.now }
     requires all { length named.now ≡ length paths.now }
-    requires is_named { is_named_in paths.now named.now (get_or paths.now number []) ≡ true }
-    ensures { form_name result (get_or paths.now number []) ≡ short_use (is_named_in paths.now named.now) (get_or paths.now number [])
+    requires is_met { met_in paths.now named.now also.now (get_or paths.now number []) ≡ true }
+    ensures { form_name result (get_or paths.now number []) ≡ short_use (met_in paths.now named.now also.now) (get_or paths.now number [])
         (get_or paths.now scope []) }
 {
-    if is_found_alone(paths, named, number, scope) {
+    if is_found_alone(paths, named, also, number, scope) {
         Form {
             root: false,
             up: 0,

@@ -28,6 +28,7 @@ fn spell_all(
     alloc: Global,
     index: &mut Index,
     calls: &[Option<usize>],
+    also: &[bool],
     shorten: bool,
     nodes: &mut Vec<Node>,
     scope: usize,
@@ -35,13 +36,14 @@ fn spell_all(
     requires scope_in { scope < length index.old.paths }
     requires all { length index.old.named.items ≡ length index.old.paths }
     requires short { length calls.now ≤ length index.old.paths }
-    ensures grows { OnOk result (Grows index.old.paths index.old.named.items index.new.paths index.new.named.items calls.now) }
-    ensures spells { OnOk result (SpellsAll shorten index.old.paths index.old.named.items calls.now (trees_of nodes.old.items)
+    requires few { length also.now ≤ length index.old.paths }
+    ensures grows { OnOk result (Grows index.old.paths index.old.named.items index.new.paths index.new.named.items calls.now also.now) }
+    ensures spells { OnOk result (SpellsAll shorten index.old.paths index.old.named.items calls.now also.now (trees_of nodes.old.items)
         (trees_of nodes.new.items) (get_or index.old.paths scope [])) }
     ensures places { OnOk result (places_of nodes.new.items ≡ places_of nodes.old.items) }
 {
     for node in nodes.iter_mut() {
-        spell_one(alloc, index, calls, shorten, node, scope)?;
+        spell_one(alloc, index, calls, also, shorten, node, scope)?;
     }
     Ok(())
 }
@@ -52,6 +54,7 @@ fn spell_but(
     alloc: Global,
     index: &mut Index,
     calls: &[Option<usize>],
+    also: &[bool],
     shorten: bool,
     nodes: &mut Vec<Node>,
     place: usize,
@@ -60,12 +63,22 @@ fn spell_but(
     requires scope_in { scope < length index.old.paths }
     requires all { length index.old.named.items ≡ length index.old.paths }
     requires short { length calls.now ≤ length index.old.paths }
-    ensures grows { OnOk result (Grows index.old.paths index.old.named.items index.new.paths index.new.named.items calls.now) }
-    ensures spells { OnOk result (SpellsBut shorten index.old.paths index.old.named.items calls.now place (trees_of nodes.old.items)
-        (trees_of nodes.new.items) (get_or index.old.paths scope [])) }
+    requires few { length also.now ≤ length index.old.paths }
+    ensures grows { OnOk result (Grows index.old.paths index.old.named.items index.new.paths index.new.named.items calls.now also.now) }
+    ensures spells { OnOk result (SpellsBut shorten index.old.paths index.old.named.items calls.now also.now place
+        (trees_of nodes.old.items) (trees_of nodes.new.items) (get_or index.old.paths scope [])) }
 {
     for (number, node) in nodes.iter_mut().enumerate() {
-        spell_other(alloc, index, calls, shorten, node, number == place, scope)?;
+        spell_other(
+            alloc,
+            index,
+            calls,
+            also,
+            shorten,
+            node,
+            number == place,
+            scope,
+        )?;
     }
     Ok(())
 }
@@ -76,6 +89,7 @@ fn spell_other(
     alloc: Global,
     index: &mut Index,
     calls: &[Option<usize>],
+    also: &[bool],
     shorten: bool,
     node: &mut Node,
     kept: bool,
@@ -84,16 +98,17 @@ fn spell_other(
     requires scope_in { scope < length index.old.paths }
     requires all { length index.old.named.items ≡ length index.old.paths }
     requires short { length calls.now ≤ length index.old.paths }
-    ensures grows { OnOk result (Grows index.old.paths index.old.named.items index.new.paths index.new.named.items calls.now) }
+    requires few { length also.now ≤ length index.old.paths }
+    ensures grows { OnOk result (Grows index.old.paths index.old.named.items index.new.paths index.new.named.items calls.now also.now) }
     ensures spells { OnOk result
-        (Knowing index.old.paths index.old.named.items calls.now
-        (λ d counts. node_tree node.new ≡ other_spelled shorten (is_named d) (written_for counts) kept (node_tree node.old)
+        (Knowing index.old.paths index.old.named.items calls.now also.now
+        (λ d counts beside. node_tree node.new ≡ other_spelled shorten beside (is_named d) (written_for counts) kept (node_tree node.old)
         (get_or index.old.paths scope []))) }
 {
     if kept {
         return Ok(());
     }
-    spell_one(alloc, index, calls, shorten, node, scope)?;
+    spell_one(alloc, index, calls, also, shorten, node, scope)?;
     Ok(())
 }
 
@@ -103,6 +118,7 @@ fn spell_elements(
     alloc: Global,
     index: &mut Index,
     calls: &[Option<usize>],
+    also: &[bool],
     shorten: bool,
     nodes: &mut Vec<Node>,
     scope: usize,
@@ -110,13 +126,14 @@ fn spell_elements(
     requires scope_in { scope < length index.old.paths }
     requires all { length index.old.named.items ≡ length index.old.paths }
     requires short { length calls.now ≤ length index.old.paths }
-    ensures grows { OnOk result (Grows index.old.paths index.old.named.items index.new.paths index.new.named.items calls.now) }
-    ensures spells { OnOk result (SpellsElements shorten index.old.paths index.old.named.items calls.now (trees_of nodes.old.items)
+    requires few { length also.now ≤ length index.old.paths }
+    ensures grows { OnOk result (Grows index.old.paths index.old.named.items index.new.paths index.new.named.items calls.now also.now) }
+    ensures spells { OnOk result (SpellsElements shorten index.old.paths index.old.named.items calls.now also.now (trees_of nodes.old.items)
         (trees_of nodes.new.items) (get_or index.old.paths scope [])) }
     ensures places { OnOk result (places_of nodes.new.items ≡ places_of nodes.old.items) }
 {
     for node in nodes.iter_mut() {
-        spell_item(alloc, index, calls, shorten, node, scope)?;
+        spell_item(alloc, index, calls, also, shorten, node, scope)?;
     }
     Ok(())
 }
@@ -126,6 +143,7 @@ fn spell_item(
     alloc: Global,
     index: &mut Index,
     calls: &[Option<usize>],
+    also: &[bool],
     shorten: bool,
     node: &mut Node,
     scope: usize,
@@ -133,11 +151,12 @@ fn spell_item(
     requires scope_in { scope < length index.old.paths }
     requires all { length index.old.named.items ≡ length index.old.paths }
     requires short { length calls.now ≤ length index.old.paths }
-    ensures grows { OnOk result (Grows index.old.paths index.old.named.items index.new.paths index.new.named.items calls.now) }
+    requires few { length also.now ≤ length index.old.paths }
+    ensures grows { OnOk result (Grows index.old.paths index.old.named.items index.new.paths index.new.named.items calls.now also.now) }
     ensures spells { OnOk result
-        (Knowing index.old.paths index.old.named.items calls.now
-        (λ d counts. node_tree node.new ≡ element_spelled shorten (is_named d) (node_tree node.old)
-        (spelled shorten (is_named d) (written_for counts) (node_tree node.old) (get_or index.old.paths scope []))
+        (Knowing index.old.paths index.old.named.items calls.now also.now
+        (λ d counts beside. node_tree node.new ≡ element_spelled shorten (is_named d) (node_tree node.old)
+        (spelled shorten beside (is_named d) (written_for counts) (node_tree node.old) (get_or index.old.paths scope []))
         (get_or index.old.paths scope []))) }
     ensures places { OnOk result (term_places node.new ≡ term_places node.old) }
 {
@@ -150,7 +169,7 @@ fn spell_item(
             None => Ok(()),
         },
         _ => {
-            spell_one(alloc, index, calls, shorten, node, scope)?;
+            spell_one(alloc, index, calls, also, shorten, node, scope)?;
             Ok(())
         }
     }
@@ -161,6 +180,7 @@ fn spell_one(
     alloc: Global,
     index: &mut Index,
     calls: &[Option<usize>],
+    also: &[bool],
     shorten: bool,
     node: &mut Node,
     scope: usize,
@@ -168,15 +188,16 @@ fn spell_one(
     requires scope_in { scope < length index.old.paths }
     requires all { length index.old.named.items ≡ length index.old.paths }
     requires short { length calls.now ≤ length index.old.paths }
-    ensures grows { OnOk result (Grows index.old.paths index.old.named.items index.new.paths index.new.named.items calls.now) }
+    requires few { length also.now ≤ length index.old.paths }
+    ensures grows { OnOk result (Grows index.old.paths index.old.named.items index.new.paths index.new.named.items calls.now also.now) }
     ensures spells { OnOk result
-        (Knowing index.old.paths index.old.named.items calls.now
-        (λ d counts. node_tree node.new ≡ spelled shorten (is_named d) (written_for counts) (node_tree node.old)
+        (Knowing index.old.paths index.old.named.items calls.now also.now
+        (λ d counts beside. node_tree node.new ≡ spelled shorten beside (is_named d) (written_for counts) (node_tree node.old)
         (get_or index.old.paths scope []))) }
     ensures places { OnOk result (term_places node.new ≡ term_places node.old) }
 {
     match &node.term {
-        Term::Name(path) => match other_name(alloc, index, shorten, path, scope)? {
+        Term::Name(path) => match other_name(alloc, index, also, shorten, path, scope)? {
             Some(other) => {
                 node.term = Term::Name(other);
                 Ok(())
@@ -184,7 +205,7 @@ fn spell_one(
             None => Ok(()),
         },
         _ => {
-            spell_inner(alloc, index, calls, shorten, node, scope)?;
+            spell_inner(alloc, index, calls, also, shorten, node, scope)?;
             Ok(())
         }
     }
@@ -196,6 +217,7 @@ fn spell_inner(
     alloc: Global,
     index: &mut Index,
     calls: &[Option<usize>],
+    also: &[bool],
     shorten: bool,
     node: &mut Node,
     scope: usize,
@@ -203,23 +225,26 @@ fn spell_inner(
     requires scope_in { scope < length index.old.paths }
     requires all { length index.old.named.items ≡ length index.old.paths }
     requires short { length calls.now ≤ length index.old.paths }
+    requires few { length also.now ≤ length index.old.paths }
     requires unnamed { path_of node.old.term ≡ None }
-    ensures grows { OnOk result (Grows index.old.paths index.old.named.items index.new.paths index.new.named.items calls.now) }
+    ensures grows { OnOk result (Grows index.old.paths index.old.named.items index.new.paths index.new.named.items calls.now also.now) }
     ensures spells { OnOk result
-        (Knowing index.old.paths index.old.named.items calls.now
-        (λ d counts. node_tree node.new ≡ spelled shorten (is_named d) (written_for counts) (node_tree node.old)
+        (Knowing index.old.paths index.old.named.items calls.now also.now
+        (λ d counts beside. node_tree node.new ≡ spelled shorten beside (is_named d) (written_for counts) (node_tree node.old)
         (get_or index.old.paths scope []))) }
     ensures places { OnOk result (term_places node.new ≡ term_places node.old) }
 {
     let here = spot_of(node);
     match &mut node.term {
         Term::Call { path, args } => {
-            spell_name(alloc, index, shorten, path, scope)?;
-            spell_all(alloc, index, calls, shorten, args, scope)?;
+            spell_name(alloc, index, also, shorten, path, scope)?;
+            spell_all(alloc, index, calls, also, shorten, args, scope)?;
             Ok(())
         }
         Term::Form { op, args, body } => {
-            spell_form(alloc, index, calls, shorten, here, *op, args, body, scope)?;
+            spell_form(
+                alloc, index, calls, also, shorten, here, *op, args, body, scope,
+            )?;
             Ok(())
         }
         _ => Ok(()),
@@ -231,6 +256,7 @@ fn spell_form(
     alloc: Global,
     index: &mut Index,
     calls: &[Option<usize>],
+    also: &[bool],
     shorten: bool,
     here: Occurrence,
     op: Op,
@@ -241,13 +267,16 @@ fn spell_form(
     requires scope_in { scope < length index.old.paths }
     requires all { length index.old.named.items ≡ length index.old.paths }
     requires short { length calls.now ≤ length index.old.paths }
-    ensures grows { OnOk result (Grows index.old.paths index.old.named.items index.new.paths index.new.named.items calls.now) }
+    requires few { length also.now ≤ length index.old.paths }
+    ensures grows { OnOk result (Grows index.old.paths index.old.named.items index.new.paths index.new.named.items calls.now also.now) }
     ensures args { OnOk result
-        (SpellsArgs shorten index.old.paths index.old.named.items calls.now (part_of op (trees_of args.old.items) (trees_of body.old.items))
+        (SpellsArgs shorten index.old.paths index.old.named.items calls.now also.now
+        (part_of op (trees_of args.old.items) (trees_of body.old.items))
         (value_form_of op (trees_of args.old.items) (trees_of body.old.items)) (trees_of args.old.items) (trees_of args.new.items)
         (get_or index.old.paths scope [])) }
     ensures body { OnOk result
-        (SpellsBody shorten index.old.paths index.old.named.items calls.now (part_of op (trees_of args.old.items) (trees_of body.old.items))
+        (SpellsBody shorten index.old.paths index.old.named.items calls.now also.now
+        (part_of op (trees_of args.old.items) (trees_of body.old.items))
         (value_form_of op (trees_of args.old.items) (trees_of body.old.items)) (trees_of args.old.items) (trees_of body.old.items)
         (trees_of body.new.items) (get_or index.old.paths scope [])) }
     ensures places { OnOk result (places_of body.new.items ≡ places_of body.old.items) }
@@ -258,6 +287,7 @@ fn spell_form(
                 alloc,
                 index,
                 calls,
+                also,
                 shorten,
                 value_form_for(op, args, body),
                 args,
@@ -267,11 +297,13 @@ fn spell_form(
             Ok(())
         }
         NameRole::Declares { name, what, opens } => {
-            spell_declared(alloc, index, calls, shorten, name, opens, args, body, scope)?;
+            spell_declared(
+                alloc, index, calls, also, shorten, name, opens, args, body, scope,
+            )?;
             Ok(())
         }
         NameRole::Alias => {
-            spell_but(alloc, index, calls, shorten, args, 1, scope)?;
+            spell_but(alloc, index, calls, also, shorten, args, 1, scope)?;
             Ok(())
         }
         NameRole::External { object, parameters } => {
@@ -280,26 +312,26 @@ fn spell_form(
         }
         NameRole::Scope => {
             let inner = opened_place(index, args, scope);
-            spell_all(alloc, index, calls, false, args, scope)?;
-            spell_all(alloc, index, calls, shorten, body, inner)?;
+            spell_all(alloc, index, calls, also, false, args, scope)?;
+            spell_all(alloc, index, calls, also, shorten, body, inner)?;
             Ok(())
         }
         NameRole::Within => {
-            spell_all(alloc, index, calls, shorten, args, scope)?;
-            spell_all(alloc, index, calls, shorten, body, scope)?;
+            spell_all(alloc, index, calls, also, shorten, args, scope)?;
+            spell_all(alloc, index, calls, also, shorten, body, scope)?;
             Ok(())
         }
         NameRole::Returns => {
-            spell_all(alloc, index, calls, shorten, args, scope)?;
+            spell_all(alloc, index, calls, also, shorten, args, scope)?;
             Ok(())
         }
         NameRole::Prints => {
-            spell_all(alloc, index, calls, shorten, args, scope)?;
+            spell_all(alloc, index, calls, also, shorten, args, scope)?;
             Ok(())
         }
         NameRole::Units(_) => {
-            spell_all(alloc, index, calls, shorten, args, scope)?;
-            spell_all(alloc, index, calls, shorten, body, scope)?;
+            spell_all(alloc, index, calls, also, shorten, args, scope)?;
+            spell_all(alloc, index, calls, also, shorten, body, scope)?;
             Ok(())
         }
     }
@@ -311,6 +343,7 @@ fn spell_value(
     alloc: Global,
     index: &mut Index,
     calls: &[Option<usize>],
+    also: &[bool],
     shorten: bool,
     form: ValueForm,
     args: &mut Vec<Node>,
@@ -320,38 +353,39 @@ fn spell_value(
     requires scope_in { scope < length index.old.paths }
     requires all { length index.old.named.items ≡ length index.old.paths }
     requires short { length calls.now ≤ length index.old.paths }
-    ensures grows { OnOk result (Grows index.old.paths index.old.named.items index.new.paths index.new.named.items calls.now) }
-    ensures args { OnOk result (SpellsArgs shorten index.old.paths index.old.named.items calls.now P.Nothing form (trees_of args.old.items)
-        (trees_of args.new.items) (get_or index.old.paths scope [])) }
-    ensures body { OnOk result (SpellsBody shorten index.old.paths index.old.named.items calls.now P.Nothing form (trees_of args.old.items)
-        (trees_of body.old.items) (trees_of body.new.items) (get_or index.old.paths scope [])) }
+    requires few { length also.now ≤ length index.old.paths }
+    ensures grows { OnOk result (Grows index.old.paths index.old.named.items index.new.paths index.new.named.items calls.now also.now) }
+    ensures args { OnOk result (SpellsArgs shorten index.old.paths index.old.named.items calls.now also.now P.Nothing form
+        (trees_of args.old.items) (trees_of args.new.items) (get_or index.old.paths scope [])) }
+    ensures body { OnOk result (SpellsBody shorten index.old.paths index.old.named.items calls.now also.now P.Nothing form
+        (trees_of args.old.items) (trees_of body.old.items) (trees_of body.new.items) (get_or index.old.paths scope [])) }
     ensures places { OnOk result (places_of body.new.items ≡ places_of body.old.items) }
 {
     match form {
         ValueForm::Nothing => Ok(()),
         ValueForm::Operator(_) => {
-            spell_all(alloc, index, calls, shorten, args, scope)?;
+            spell_all(alloc, index, calls, also, shorten, args, scope)?;
             Ok(())
         }
         ValueForm::CondRefOf => {
-            spell_all(alloc, index, calls, shorten, args, scope)?;
+            spell_all(alloc, index, calls, also, shorten, args, scope)?;
             Ok(())
         }
         ValueForm::Assign => {
-            spell_all(alloc, index, calls, shorten, args, scope)?;
+            spell_all(alloc, index, calls, also, shorten, args, scope)?;
             Ok(())
         }
         ValueForm::AssignBy => {
-            spell_all(alloc, index, calls, shorten, args, scope)?;
+            spell_all(alloc, index, calls, also, shorten, args, scope)?;
             Ok(())
         }
         ValueForm::Buffer => {
-            spell_all(alloc, index, calls, shorten, args, scope)?;
+            spell_all(alloc, index, calls, also, shorten, args, scope)?;
             Ok(())
         }
         ValueForm::Package => {
-            spell_all(alloc, index, calls, shorten, args, scope)?;
-            spell_elements(alloc, index, calls, shorten, body, scope)?;
+            spell_all(alloc, index, calls, also, shorten, args, scope)?;
+            spell_elements(alloc, index, calls, also, shorten, body, scope)?;
             Ok(())
         }
     }
@@ -363,6 +397,7 @@ fn spell_declared(
     alloc: Global,
     index: &mut Index,
     calls: &[Option<usize>],
+    also: &[bool],
     shorten: bool,
     place: usize,
     opens: bool,
@@ -373,17 +408,18 @@ fn spell_declared(
     requires scope_in { scope < length index.old.paths }
     requires all { length index.old.named.items ≡ length index.old.paths }
     requires short { length calls.now ≤ length index.old.paths }
-    ensures grows { OnOk result (Grows index.old.paths index.old.named.items index.new.paths index.new.named.items calls.now) }
-    ensures args { OnOk result (SpellsBut shorten index.old.paths index.old.named.items calls.now place (trees_of args.old.items)
+    requires few { length also.now ≤ length index.old.paths }
+    ensures grows { OnOk result (Grows index.old.paths index.old.named.items index.new.paths index.new.named.items calls.now also.now) }
+    ensures args { OnOk result (SpellsBut shorten index.old.paths index.old.named.items calls.now also.now place (trees_of args.old.items)
         (trees_of args.new.items) (get_or index.old.paths scope [])) }
-    ensures body { OnOk result (SpellsOpened shorten index.old.paths index.old.named.items calls.now opens (trees_of body.old.items)
-        (trees_of body.new.items) (place_at place (trees_of args.old.items) (get_or index.old.paths scope []))) }
+    ensures body { OnOk result (SpellsOpened shorten index.old.paths index.old.named.items calls.now also.now opens
+        (trees_of body.old.items) (trees_of body.new.items) (place_at place (trees_of args.old.items) (get_or index.old.paths scope []))) }
     ensures places { OnOk result (places_of body.new.items ≡ places_of body.old.items) }
 {
     spell_inside(
-        alloc, index, calls, shorten, place, opens, args, body, scope,
+        alloc, index, calls, also, shorten, place, opens, args, body, scope,
     )?;
-    spell_but(alloc, index, calls, shorten, args, place, scope)?;
+    spell_but(alloc, index, calls, also, shorten, args, place, scope)?;
     Ok(())
 }
 
@@ -393,6 +429,7 @@ fn spell_inside(
     alloc: Global,
     index: &mut Index,
     calls: &[Option<usize>],
+    also: &[bool],
     shorten: bool,
     place: usize,
     opens: bool,
@@ -403,16 +440,17 @@ fn spell_inside(
     requires scope_in { scope < length index.old.paths }
     requires all { length index.old.named.items ≡ length index.old.paths }
     requires short { length calls.now ≤ length index.old.paths }
-    ensures grows { OnOk result (Grows index.old.paths index.old.named.items index.new.paths index.new.named.items calls.now) }
-    ensures body { OnOk result (SpellsOpened shorten index.old.paths index.old.named.items calls.now opens (trees_of body.old.items)
-        (trees_of body.new.items) (place_at place (trees_of args.now) (get_or index.old.paths scope []))) }
+    requires few { length also.now ≤ length index.old.paths }
+    ensures grows { OnOk result (Grows index.old.paths index.old.named.items index.new.paths index.new.named.items calls.now also.now) }
+    ensures body { OnOk result (SpellsOpened shorten index.old.paths index.old.named.items calls.now also.now opens
+        (trees_of body.old.items) (trees_of body.new.items) (place_at place (trees_of args.now) (get_or index.old.paths scope []))) }
     ensures places { OnOk result (places_of body.new.items ≡ places_of body.old.items) }
 {
     if !opens {
         return Ok(());
     }
-    let inner = declared_place(index, calls, args, place, scope)?;
-    spell_all(alloc, index, calls, shorten, body, inner)?;
+    let inner = declared_place(index, calls, also, args, place, scope)?;
+    spell_all(alloc, index, calls, also, shorten, body, inner)?;
     Ok(())
 }
 
@@ -420,6 +458,7 @@ fn spell_inside(
 fn declared_place(
     index: &mut Index,
     calls: &[Option<usize>],
+    also: &[bool],
     args: &[Node],
     place: usize,
     scope: usize,
@@ -427,7 +466,8 @@ fn declared_place(
     requires scope_in { scope < length index.old.paths }
     requires all { length index.old.named.items ≡ length index.old.paths }
     requires short { length calls.now ≤ length index.old.paths }
-    ensures grows { OnOk result (Grows index.old.paths index.old.named.items index.new.paths index.new.named.items calls.now) }
+    requires few { length also.now ≤ length index.old.paths }
+    ensures grows { OnOk result (Grows index.old.paths index.old.named.items index.new.paths index.new.named.items calls.now also.now) }
     ensures within { IfOk result (λ n. n < length index.new.paths) }
     ensures path { IfOk result (λ n. get_or index.new.paths n [] ≡ place_at place (trees_of args.now) (get_or index.old.paths scope [])) }
 {
@@ -507,29 +547,30 @@ fn put_number(
     Ok(())
 }
 
-/// Spells the terms of a block as they have to stand in the bytes: a used name that has several candidates is
+/// Spells the terms of a block as they have to stand in the bytes: a used name whose search meets several paths is
 /// written from the root (ACPI Specification 6.4, 5.3), or in the shortest way that leads to the same path where
 /// `shorten` asks for it; a name in a Package that would be searched is written from the root; an
 /// External says its object type and its arity. `calls` says of the numbers of paths with how many arguments they
-/// are called first. The names are looked up in the index for the last time. After a want of memory nothing is left of
-/// the terms.
+/// are called first, and `also` which of them a search meets though they are not named. The names are looked up in the
+/// index for the last time. After a want of memory nothing is left of the terms.
 pub fn spell(
     alloc: Global,
     index: Index,
     calls: &[Option<usize>],
+    also: &[bool],
     shorten: bool,
     terms: Vec<Node>,
 ) -> Result<Vec<Node>, AllocError>
     requires all { length index.named.items ≡ length index.paths }
     requires short { length calls.now ≤ length index.paths }
-    ensures trees { IfOk result (λ made. (d : Declarations) (counts : List (AbsolutePath × ℕ)) → Agrees index.paths index.named.items d →
-        Tabled index.paths calls.now (lookup counts) → trees_of made.items ≡ spelled_all shorten (is_named d) (written_for counts)
-        (trees_of terms.items) []) }
+    requires few { length also.now ≤ length index.paths }
+    ensures trees { IfOk result (λ made. Knowing index.paths index.named.items calls.now also.now
+        (λ d counts beside. trees_of made.items ≡ spelled_all shorten beside (is_named d) (written_for counts) (trees_of terms.items) [])) }
     ensures places { IfOk result (λ made. places_of made.items ≡ places_of terms.items) }
 {
     let mut index = index;
     let mut made = terms;
     let count = index.paths.len();
-    spell_all(alloc, &mut index, calls, shorten, &mut made, 0)?;
+    spell_all(alloc, &mut index, calls, also, shorten, &mut made, 0)?;
     Ok(made)
 }

@@ -1,34 +1,39 @@
 //! Names as they have to stand in the bytes.
-ghost use Rattle.std.specs.Prelude.{◌≡◌, ◌<◌, [], None, true, length, get_or, IfOk, OnOk, MatchOption, unwrap_or};
+ghost use Rattle.std.specs.Prelude.{◌≡◌, ◌<◌, [], None, true, false, length, get_or, IfOk, OnOk, MatchOption, unwrap_or};
 ghost use Rattle.acpi_names.specs.Paths.{is_named_in, number_in};
 ghost use Rattle.name_spelling.specs.Spelling.{external_type, type_written};
 ghost use Rattle.acpi_names.specs.Tables.{entry_at};
-ghost use Rattle.asl_tree.specs.Names.{absolute, declared_path, single_segment, spelled_name};
+ghost use Rattle.asl_tree.specs.Names.{absolute, declared_path, single_segment};
 ghost use Rattle.acpi_names.specs.Shortest.{spelled_use, spelled_item};
 ghost use Rattle.asl_meaning.specs.Declarations.{written_type, external_object};
 
-use crate::form::{name_in, shortest_placed, shortest_used};
+use crate::form::{is_found_alone, name_in, shortest_placed, shortest_used};
 use acpi_names::index::Index;
 use acpi_names::lookup::{denotes, find, from_root, prefixed, single};
 use acpi_names::paths::{Paths, nearest};
 use asl_tree::path::{Path, Segs};
 use std::alloc::{AllocError, Global};
 
-/// The nearest candidate of a used name that has a second one further out.
-fn ambiguous(paths: &Paths, named: &[bool], name: &Path, scope: usize) -> Option<usize>
+// The path that a used name denotes, where a search for the name as it is written meets another one too.
+fn ambiguous(
+    paths: &Paths,
+    named: &[bool],
+    also: &[bool],
+    name: &Path,
+    scope: usize,
+) -> Option<usize>
     requires scope_in { scope < length paths.now }
     requires all { length named.now ≡ length paths.now }
-    ensures { MatchOption result (spelled_name (is_named_in paths.now named.now) name.now (get_or paths.now scope []) ≡ name.now)
-        (λ n. (n < length paths.now)
-        × (spelled_name (is_named_in paths.now named.now) name.now (get_or paths.now scope []) ≡ absolute (get_or paths.now n []))) }
+    ensures { let spelled = spelled_use (is_named_in paths.now also.now) (is_named_in paths.now named.now) false name.now
+        (get_or paths.now scope []) in
+        MatchOption result (spelled ≡ name.now) (λ n. (n < length paths.now) × (spelled ≡ absolute (get_or paths.now n []))) }
 {
     let segment = single(name)?;
     let number = nearest(paths, named, scope, segment)?;
-    let (found_in, _) = paths.step(number)?;
-    let (around, _) = paths.step(found_in)?;
-    match nearest(paths, named, around, segment) {
-        Some(_) => Some(number),
-        None => None,
+    if is_found_alone(paths, named, also, number, scope) {
+        None
+    } else {
+        Some(number)
     }
 }
 
@@ -36,41 +41,43 @@ fn ambiguous(paths: &Paths, named: &[bool], name: &Path, scope: usize) -> Option
 fn shortened(
     alloc: Global,
     index: &Index,
+    also: &[bool],
     name: &Path,
     scope: usize,
 ) -> Result<Option<Path>, AllocError>
     requires scope_in { scope < length index.now.paths }
     requires all { length index.now.named.items ≡ length index.now.paths }
-    ensures { IfOk result (λ other. unwrap_or other name.now ≡ spelled_use (is_named_in index.now.paths index.now.named.items) true name.now
-        (get_or index.now.paths scope [])) }
+    ensures { IfOk result (λ other. unwrap_or other name.now ≡ spelled_use (is_named_in index.now.paths also.now)
+        (is_named_in index.now.paths index.now.named.items) true name.now (get_or index.now.paths scope [])) }
 {
     match denotes(&index.paths, &index.named, name, scope) {
         Some(number) => {
-            let form = shortest_used(&index.paths, &index.named, number, scope);
+            let form = shortest_used(&index.paths, &index.named, also, number, scope);
             Ok(Some(name_in(alloc, &index.paths, number, form)?))
         }
         None => Ok(None),
     }
 }
 
-/// A used name as its search finds what it denotes, where that is not how it is written: with several candidates it
-/// is written from the root, or in the shortest spelling where `shorten` asks for it.
+/// A used name as its search finds what it denotes, where that is not how it is written: where another path is met too, one of
+/// those with `also` among these, it is written from the root, or in the shortest spelling where `shorten` asks for it.
 pub(crate) fn other_name(
     alloc: Global,
     index: &Index,
+    also: &[bool],
     shorten: bool,
     name: &Path,
     scope: usize,
 ) -> Result<Option<Path>, AllocError>
     requires scope_in { scope < length index.now.paths }
     requires all { length index.now.named.items ≡ length index.now.paths }
-    ensures { IfOk result (λ other. unwrap_or other name.now ≡ spelled_use (is_named_in index.now.paths index.now.named.items) shorten
-        name.now (get_or index.now.paths scope [])) }
+    ensures { IfOk result (λ other. unwrap_or other name.now ≡ spelled_use (is_named_in index.now.paths also.now)
+        (is_named_in index.now.paths index.now.named.items) shorten name.now (get_or index.now.paths scope [])) }
 {
     if shorten {
-        return Ok(shortened(alloc, index, name, scope)?);
+        return Ok(shortened(alloc, index, also, name, scope)?);
     }
-    match ambiguous(&index.paths, &index.named, name, scope) {
+    match ambiguous(&index.paths, &index.named, also, name, scope) {
         Some(number) => Ok(Some(from_root(alloc, &index.paths, number)?)),
         None => Ok(None),
     }
@@ -134,16 +141,17 @@ pub(crate) fn other_element(
 pub(crate) fn spell_name(
     alloc: Global,
     index: &Index,
+    also: &[bool],
     shorten: bool,
     name: &mut Path,
     scope: usize,
 ) -> Result<(), AllocError>
     requires scope_in { scope < length index.now.paths }
     requires all { length index.now.named.items ≡ length index.now.paths }
-    ensures { OnOk result (name.new ≡ spelled_use (is_named_in index.now.paths index.now.named.items) shorten name.old
-        (get_or index.now.paths scope [])) }
+    ensures { OnOk result (name.new ≡ spelled_use (is_named_in index.now.paths also.now) (is_named_in index.now.paths index.now.named.items)
+        shorten name.old (get_or index.now.paths scope [])) }
 {
-    match other_name(alloc, index, shorten, name, scope)? {
+    match other_name(alloc, index, also, shorten, name, scope)? {
         Some(other) => {
             *name = other;
             Ok(())

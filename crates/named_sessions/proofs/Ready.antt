@@ -12,20 +12,20 @@ use Rattle.acpi_state.specs.Objects.{Object, DataObject, MethodObject, Container
 use Rattle.acpi_state.specs.Outcomes.{choose}
 use Rattle.acpi_state.proofs.Lookups.{is_same_path-true}
 use Rattle.asl_tree.specs.declared.path.Path.{Path}
-use Rattle.asl_tree.specs.Names.{AliasTo, Known, is_known, kind_at, end_of, below, prefix_scope, declared_path, enclosing, single_in, search_path, candidates, first_of, denoted, spelled_by, is_searched, absolute, spelled_element}
+use Rattle.asl_tree.specs.Names.{AliasTo, Known, is_known, kind_at, end_of, below, prefix_scope, declared_path, enclosing, single_in, search_path, candidates, first_of, denoted, is_searched, absolute, spelled_element}
 use Rattle.asl_meaning.specs.Declarations.{Declared, As, AliasOf, ExternalType, Declarations, in_root, is_named, scope_path, with_declared, with_external, declare, declare_all, kind_of, as_unit, as_buffer_field, declare_items}
 use Rattle.asl_meaning.specs.Meaning.{SpotForm, OfResult, OfInside, NoSpot, spot_form}
 use Rattle.acpi_state.specs.FieldActs.{region_letters, field_letters}
 use Rattle.asl_tree.specs.FieldItems.{FieldItem, UnitItem, SkipItem, OffsetItem, AccessItem, ConnectionItem, ToName, ToBytes}
 use Rattle.asl_tree.specs.Tree.{At, Tree, Integer, Constant, String, InSlot, Debug, Omitted, Raw, Use, Call, Apply, Buffer, Package, VarPackage, CondRefOf, Return, Name, Alias, External, Method, Mutex, Event, Container', Scope, Fill, Misshapen}
 use Rattle.asl_tree.specs.Tree.{Operated, Assigned, AssignedBy, Trees, no_trees, tree, count, OperationRegion, Field, IndexField, BankField, CreateField, UnitName, If, ElseIf, Else, While, Break, Continue, Item, Switch, Case, Default, For, Print}
-use Rattle.asl_meaning.proofs.Searches.{first_is_known, absolute_candidates}
+use Rattle.asl_meaning.proofs.Searches.{first_is_known}
 use Rattle.aml_code.specs.Fronts.{is_segment, AreSegments, IsName, HasStart, IsUsedName}
 use Rattle.aml_sessions.specs.Ready.{is_expression, AtMostOne, Denotes, IsSought, Declares, IsElementName, CondReady, SpotReady, LetterReady, ElementReady, IsReady, IsSpot, IsAlone, AreOperands, AreSpots, AreValues, AreElements, AreReady, AreItems, AreUnits, IsFound}
 use Rattle.acpi_names.specs.Errors.{NameError, Twice, Missing, NoContainer, WrongCount, Asked, Anything, AUnit, ARegion, asked_by, unless, Whole, step_errors, is_new, final, is_container, takes_none, takes, declared_errors, use_errors, call_errors, scope_errors}
 use Rattle.acpi_names.specs.Errors.{names, names_all, name_end, types, types_all, cond_errors, asked_types, used_types, letter_types, spot_form_types, element_types, spot_types, first_types, operand_types, spot_types_all, element_types_all, unit_path, items_errors}
-use Rattle.acpi_names.specs.Shortest.{shortest, last_alone, upward, unsearched, leads_to, short_use, short_element, spelled_use, spelled_item}
-use Rattle.acpi_names.proofs.Shortest.{Each, each_kept, shortest_keeps, short_leads, short_element_placed}
+use Rattle.acpi_names.specs.Shortest.{shortest, last_alone, upward, unsearched, leads_to, short_element, use_of, spelled_item, met, spelled_use}
+use Rattle.acpi_names.proofs.Shortest.{Each, each_kept, shortest_keeps, short_element_placed, use_alone}
 use Rattle.acpi_names.specs.Spelled.{spelled, spelled_all, element_spelled, items_spelled, spelled_elements}
 use Rattle.named_sessions.specs.Shaped.{LetterShaped, ElementShaped, IsShaped, IsShapedSpot, IsShapedAlone, AreShapedOperands, AreShapedSpots, AreShapedValues, AreShapedElements, AreShaped}
 
@@ -142,9 +142,9 @@ within_new d path x new = record { by = λ q y e. by_same q y e (is_same_path pa
 there_now : (d : Declarations) (path : AbsolutePath) (x : Declared) → lookup (with_declared path x d).declared path ≡ Some x
 there_now d path x = ap (λ c. if c then Some x else lookup d.declared path) (same_path_refl path)
 
-count_same : (shorten : Bool) (has : AbsolutePath → Bool) (says : AbsolutePath → ExternalType → ExternalType) (ts : Trees) (scope : AbsolutePath) → count (spelled_all shorten has says ts scope) ≡ count ts
-count_same shorten has says no_trees scope = refl
-count_same shorten has says (tree t ts) scope = ap suc (count_same shorten has says ts scope)
+count_same : (shorten : Bool) (also has : AbsolutePath → Bool) (says : AbsolutePath → ExternalType → ExternalType) (ts : Trees) (scope : AbsolutePath) → count (spelled_all shorten also has says ts scope) ≡ count ts
+count_same shorten also has says no_trees scope = refl
+count_same shorten also has says (tree t ts) scope = ap suc (count_same shorten also has says ts scope)
 
 module _ (whole : Whole) where
   pub new_of : (at : At) (name : Path) (scope : AbsolutePath) (d : Declarations) → declared_errors whole at name scope d ≡ [] → is_new d (declared_path name scope) ≡ true
@@ -203,9 +203,9 @@ module _ (whole : Whole) where
     within_all (tree t ts) scope d e =
         within_then d (declare t scope d) (declare_all ts scope (declare t scope d)) (within t scope d (left_none _ (names_all whole ts scope (declare t scope d)) e)) (within_all ts scope (declare t scope d) (right_none (names whole t scope d) _ e))
 
-same_expression : (shorten : Bool) (has : AbsolutePath → Bool) (says : AbsolutePath → ExternalType → ExternalType) (t : Tree) (scope : AbsolutePath) → is_expression (spelled shorten has says t scope) ≡ is_expression t
-same_expression shorten has says (Integer number) scope = refl
-same_expression shorten has says _ scope = refl
+same_expression : (shorten : Bool) (also has : AbsolutePath → Bool) (says : AbsolutePath → ExternalType → ExternalType) (t : Tree) (scope : AbsolutePath) → is_expression (spelled shorten also has says t scope) ≡ is_expression t
+same_expression shorten also has says (Integer number) scope = refl
+same_expression shorten also has says _ scope = refl
 
 -- what the whole block's names give
 pub record Settled (whole : Whole) : Type 0 where
@@ -248,7 +248,7 @@ forms_used (seg ∷ outer) scope valid short = (
   unsearched_used (seg ∷ outer) scope valid short,
 )
 
-module _ (shorten : Bool) (whole : Whole) (says : AbsolutePath → ExternalType → ExternalType) (settled : Settled whole) where
+module _ (shorten : Bool) (also : AbsolutePath → Bool) (whole : Whole) (says : AbsolutePath → ExternalType → ExternalType) (settled : Settled whole) where
   abbrev known : Known
   known = whole.known
 
@@ -258,59 +258,49 @@ module _ (shorten : Bool) (whole : Whole) (says : AbsolutePath → ExternalType 
   same_denoted : (name : Path) (scope : AbsolutePath) → denoted has name scope ≡ denoted (is_named whole.all) name scope
   same_denoted name scope = ap first_of (same_candidates has (is_named whole.all) settled.same (search_path name scope))
 
+  -- the shortest of some used names is one, whatever leads to a path
+  short_used : (leading : AbsolutePath → Bool) (path scope : AbsolutePath) (names : List Path) → AreSegments path → has path ≡ true → Each IsUsedName names → IsUsedName (shortest (absolute path) (filter (leads_to leading path scope) names))
+  short_used leading path scope names valid there used =
+      shortest_keeps IsUsedName (absolute path) (filter (leads_to leading path scope) names) (absolute_used path valid (settled.short path there)) (each_kept (leads_to leading path scope) IsUsedName names used)
+
+  use_used : (short : Bool) (name : Path) (path scope : AbsolutePath) → IsUsedName name → AreSegments path → has path ≡ true → IsUsedName (use_of (met also has) short name path scope)
+  use_used true name path scope used valid there = short_used (met also has) path scope (last_alone path ++ unsearched path scope) valid there (forms_used path scope valid (settled.short path there))
+  use_used false name path scope used valid there = by_leads (leads_to (met also has) path scope name)
+    where
+      by_leads : (c : Bool) → IsUsedName (if c then name else absolute path)
+      by_leads true = used
+      by_leads false = absolute_used path valid (settled.short path there)
+
+  -- a used name that denotes a path, shortened or not
+  use_spells : (short : Bool) (name : Path) (path scope : AbsolutePath) → IsUsedName name → AreSegments path → has path ≡ true → denoted has name scope ≡ Some path → Denotes known (use_of (met also has) short name path scope) scope path
+  use_spells short name path scope used valid there e =
+      record { used = use_used short name path scope used valid there; only = use_alone also has short name scope path e }
+
   -- a used name without errors, shortened or not
   record Found (short : Bool) (name : Path) (scope : AbsolutePath) : Type 0 where
     path : AbsolutePath
-    spells : Denotes known (spelled_use has short name scope) scope path
+    spells : Denotes known (spelled_use also has short name scope) scope path
     denotes : denoted has name scope ≡ Some path
     segments : AreSegments path
     there : has path ≡ true
 
-  found_written : (at : At) (name : Path) (scope : AbsolutePath) → IsUsedName name → AreSegments scope → use_errors whole at name scope ≡ [] → Found false name scope
-  found_written at name scope used valid e =
+  found : (short : Bool) (at : At) (name : Path) (scope : AbsolutePath) → IsUsedName name → AreSegments scope → use_errors whole at name scope ≡ [] → Found short name scope
+  found short at name scope used valid e =
       by_candidates (candidates has (search_path name scope)) refl (ap is_some (same_denoted name scope) ∙ holds (is_some (denoted (is_named whole.all) name scope)) (Missing at name) (right_none (step_errors at name scope) _ e))
     where
-      by_candidates : (paths : List AbsolutePath) → candidates has (search_path name scope) ≡ paths → is_some (denoted has name scope) ≡ true → Found false name scope
+      by_candidates : (paths : List AbsolutePath) → candidates has (search_path name scope) ≡ paths → is_some (denoted has name scope) ≡ true → Found short name scope
       by_candidates [] c h = absurd (let x = sym (ap (λ ps. is_some (first_of ps)) c) ∙ h in grind arith)
-      by_candidates (path ∷ []) c h =
+      by_candidates (path ∷ others) c h =
+          let valid' = candidate_segments has (search_path name scope) path others (search_segments name scope used.is_name valid) c in
+          let there = first_is_known has (search_path name scope) path others c in
+          let denotes : denoted has name scope ≡ Some path = ap first_of c in
           record {
             path = path;
-            spells = subst (λ ps. Denotes known (spelled_by ps name) scope path) (sym c) (record { used = used; only = c });
-            denotes = ap first_of c;
-            segments = candidate_segments has (search_path name scope) path [] (search_segments name scope used.is_name valid) c;
-            there = first_is_known has (search_path name scope) path [] c;
-          }
-      by_candidates (path ∷ other ∷ others) c h =
-          let valid' = candidate_segments has (search_path name scope) path (other ∷ others) (search_segments name scope used.is_name valid) c in
-          let there = first_is_known has (search_path name scope) path (other ∷ others) c in
-          record {
-            path = path;
-            spells = subst (λ ps. Denotes known (spelled_by ps name) scope path) (sym c) (record { used = absolute_used path valid' (settled.short path there); only = absolute_candidates has path scope there });
-            denotes = ap first_of c;
+            spells = subst (λ o. Denotes known (choose o name (λ path. use_of (met also has) short name path scope)) scope path) (sym denotes) (use_spells short name path scope used valid' there denotes);
+            denotes = denotes;
             segments = valid';
             there = there;
           }
-
-  -- the shortest of some used names is one
-  short_used : (path scope : AbsolutePath) (names : List Path) → AreSegments path → has path ≡ true → Each IsUsedName names → IsUsedName (shortest (absolute path) (filter (leads_to has path scope) names))
-  short_used path scope names valid there used =
-      shortest_keeps IsUsedName (absolute path) (filter (leads_to has path scope) names) (absolute_used path valid (settled.short path there)) (each_kept (leads_to has path scope) IsUsedName names used)
-
-  short_denotes : (path scope : AbsolutePath) → AreSegments path → has path ≡ true → Denotes known (short_use has path scope) scope path
-  short_denotes path scope valid there =
-      record { used = short_used path scope (last_alone path ++ unsearched path scope) valid there (forms_used path scope valid (settled.short path there)); only = short_leads has path scope (last_alone path ++ unsearched path scope) there }
-
-  found : (short : Bool) (at : At) (name : Path) (scope : AbsolutePath) → IsUsedName name → AreSegments scope → use_errors whole at name scope ≡ [] → Found short name scope
-  found false at name scope used valid e = found_written at name scope used valid e
-  found true at name scope used valid e =
-      let f = found_written at name scope used valid e in
-      record {
-        path = f.path;
-        spells = subst (λ o. Denotes known (choose o name (λ path. short_use has path scope)) scope f.path) (sym f.denotes) (short_denotes f.path scope f.segments f.there);
-        denotes = f.denotes;
-        segments = f.segments;
-        there = f.there;
-      }
 
   -- where the name ends, its kind is what the errors ask for
   ends : (name : Path) (scope path : AbsolutePath) → denoted has name scope ≡ Some path → (n : ℕ) (target : AbsolutePath) (object : Object) → end_of known n path ≡ Some (target, object) → name_end whole name scope ≡ Some (target, object)
@@ -318,35 +308,23 @@ module _ (shorten : Bool) (whole : Whole) (says : AbsolutePath → ExternalType 
       ap (λ o. choose o None (final known)) (sym (same_denoted name scope) ∙ den) ∙ settled.finite n path (target, object) e
 
   -- a name that a search finds at one place at most
-  few_written : (name : Path) (scope : AbsolutePath) → IsUsedName name → AreSegments scope → IsSought known (spelled_use has false name scope) scope
-  few_written name scope used valid = by_candidates (candidates has (search_path name scope)) refl
+  few_candidates : (short : Bool) (name : Path) (scope : AbsolutePath) → IsUsedName name → AreSegments scope → IsSought known (spelled_use also has short name scope) scope
+  few_candidates short name scope used valid = by_candidates (candidates has (search_path name scope)) refl
     where
-      by_candidates : (paths : List AbsolutePath) → candidates has (search_path name scope) ≡ paths → IsSought known (spelled_use has false name scope) scope
-      by_candidates [] c = subst (λ ps. IsSought known (spelled_by ps name) scope) (sym c) (record { used = used; few = subst AtMostOne (sym c) tt })
-      by_candidates (path ∷ []) c = subst (λ ps. IsSought known (spelled_by ps name) scope) (sym c) (record { used = used; few = subst AtMostOne (sym c) tt })
-      by_candidates (path ∷ other ∷ others) c =
-          let valid' = candidate_segments has (search_path name scope) path (other ∷ others) (search_segments name scope used.is_name valid) c in
-          let there = first_is_known has (search_path name scope) path (other ∷ others) c in
-          subst (λ ps. IsSought known (spelled_by ps name) scope) (sym c) (record { used = absolute_used path valid' (settled.short path there); few = subst AtMostOne (sym (absolute_candidates has path scope there)) tt })
-
-  few_candidates : (short : Bool) (name : Path) (scope : AbsolutePath) → IsUsedName name → AreSegments scope → IsSought known (spelled_use has short name scope) scope
-  few_candidates false name scope used valid = few_written name scope used valid
-  few_candidates true name scope used valid = by_candidates (candidates has (search_path name scope)) refl
-    where
-      by_candidates : (paths : List AbsolutePath) → candidates has (search_path name scope) ≡ paths → IsSought known (choose (first_of (candidates has (search_path name scope))) name (λ path. short_use has path scope)) scope
+      by_candidates : (paths : List AbsolutePath) → candidates has (search_path name scope) ≡ paths → IsSought known (choose (first_of (candidates has (search_path name scope))) name (λ path. use_of (met also has) short name path scope)) scope
       by_candidates [] c =
-          subst (λ o. IsSought known (choose o name (λ path. short_use has path scope)) scope) (sym (ap first_of c)) (record { used = used; few = subst AtMostOne (sym c) tt })
+          subst (λ o. IsSought known (choose o name (λ path. use_of (met also has) short name path scope)) scope) (sym (ap first_of c)) (record { used = used; few = subst AtMostOne (sym c) tt })
       by_candidates (path ∷ others) c =
           let valid' = candidate_segments has (search_path name scope) path others (search_segments name scope used.is_name valid) c in
-          let h = short_denotes path scope valid' (first_is_known has (search_path name scope) path others c) in
-          subst (λ o. IsSought known (choose o name (λ path. short_use has path scope)) scope) (sym (ap first_of c)) (record { used = h.used; few = subst AtMostOne (sym h.only) tt })
+          let h = use_spells short name path scope used valid' (first_is_known has (search_path name scope) path others c) (ap first_of c) in
+          subst (λ o. IsSought known (choose o name (λ path. use_of (met also has) short name path scope)) scope) (sym (ap first_of c)) (record { used = h.used; few = subst AtMostOne (sym h.only) tt })
 
   -- a name in a Package has one place once it is spelled
   element_written : (at : At) (name : Path) (scope : AbsolutePath) → IsUsedName name → AreSegments scope → use_errors whole at name scope ≡ [] → IsElementName known (spelled_element has name scope)
   element_written at name scope used valid e = by_searched (is_searched name) refl
     where
       f : Found false name scope
-      f = found_written at name scope used valid e
+      f = found false at name scope used valid e
 
       path_is : choose (denoted has name scope) (declared_path name scope) (λ path. path) ≡ f.path
       path_is = ap (λ o. choose o (declared_path name scope) (λ path. path)) f.denotes
@@ -359,11 +337,11 @@ module _ (shorten : Bool) (whole : Whole) (says : AbsolutePath → ExternalType 
   element_ready at name scope used valid e = by_searched (is_searched name) refl
     where
       f : Found false name scope
-      f = found_written at name scope used valid e
+      f = found false at name scope used valid e
 
       short : IsElementName known (short_element has f.path scope)
       short =
-          record { used = short_used f.path scope (unsearched f.path scope) f.segments f.there (unsearched_used f.path scope f.segments (settled.short f.path f.there)); single = short_element_placed has f.path scope }
+          record { used = short_used has f.path scope (unsearched f.path scope) f.segments f.there (unsearched_used f.path scope f.segments (settled.short f.path f.there)); single = short_element_placed has f.path scope }
 
       by_shorten : (b : Bool) → is_searched name ≡ false → IsElementName known (if b then choose (denoted has name scope) name (λ path. short_element has path scope) else name)
       by_shorten true s = subst (λ o. IsElementName known (choose o name (λ path. short_element has path scope))) (sym f.denotes) short
@@ -381,7 +359,7 @@ module _ (shorten : Bool) (whole : Whole) (says : AbsolutePath → ExternalType 
 
   -- an operand by its letter
   ready_letter : (letter : Letter) (asked : Asked) (t : Tree) (scope : AbsolutePath) (d : Declarations) (V' S' : Type 0) → LetterShaped letter t ((is_expression t ≡ true) × IsShaped t) (IsShapedSpot t) → AreSegments scope → names whole t scope d ≡ [] → letter_types whole letter (types whole t scope) (spot_types whole t scope) (used_types whole asked t scope) ≡ [] →
-      ((is_expression t ≡ true) × IsShaped t → types whole t scope ≡ [] → V') → (IsShapedSpot t → spot_types whole t scope ≡ [] → S') → LetterReady known letter (spelled shorten has says t scope) V' S' scope
+      ((is_expression t ≡ true) × IsShaped t → types whole t scope ≡ [] → V') → (IsShapedSpot t → spot_types whole t scope ≡ [] → S') → LetterReady known letter (spelled shorten also has says t scope) V' S' scope
   ready_letter Valued asked t scope d V' S' shaped valid e y hv hs = hv shaped y
   ready_letter Kept asked t scope d V' S' shaped valid e y hv hs = hv shaped y
   ready_letter Placed asked t scope d V' S' shaped valid e y hv hs = hs shaped y
@@ -392,7 +370,7 @@ module _ (shorten : Bool) (whole : Whole) (says : AbsolutePath → ExternalType 
 
   -- an element of a Package
   ready_element : (t : Tree) (scope : AbsolutePath) (d : Declarations) → ElementShaped t (IsShaped t) → AreSegments scope → names whole t scope d ≡ [] → element_types whole t (types whole t scope) ≡ [] →
-      (is_expression t ≡ true → IsShaped t → types whole t scope ≡ [] → IsReady known (spelled shorten has says t scope) scope) → ElementReady known (element_spelled shorten has t (spelled shorten has says t scope) scope) (IsReady known (element_spelled shorten has t (spelled shorten has says t scope) scope) scope)
+      (is_expression t ≡ true → IsShaped t → types whole t scope ≡ [] → IsReady known (spelled shorten also has says t scope) scope) → ElementReady known (element_spelled shorten has t (spelled shorten also has says t scope) scope) (IsReady known (element_spelled shorten has t (spelled shorten also has says t scope) scope) scope)
   ready_element (Use at name) scope d shaped valid e y h = element_ready at name scope shaped valid e
   ready_element (Integer number) scope d shaped valid e y h = (refl, h refl shaped.1 y)
   ready_element (Constant literal) scope d shaped valid e y h = (refl, h refl shaped.1 y)
@@ -403,7 +381,7 @@ module _ (shorten : Bool) (whole : Whole) (says : AbsolutePath → ExternalType 
   ready_element t scope d shaped valid e y h = absurd (grind arith)
 
   mutual
-    ready_value : (t : Tree) (scope : AbsolutePath) (d : Declarations) → is_expression t ≡ true → IsShaped t → AreSegments scope → names whole t scope d ≡ [] → types whole t scope ≡ [] → IsReady known (spelled shorten has says t scope) scope
+    ready_value : (t : Tree) (scope : AbsolutePath) (d : Declarations) → is_expression t ≡ true → IsShaped t → AreSegments scope → names whole t scope d ≡ [] → types whole t scope ≡ [] → IsReady known (spelled shorten also has says t scope) scope
     ready_value (Integer number) scope d x shaped valid e y = shaped
     ready_value (Constant literal) scope d x shaped valid e y = tt
     ready_value (String text) scope d x shaped valid e y = shaped
@@ -426,20 +404,20 @@ module _ (shorten : Bool) (whole : Whole) (says : AbsolutePath → ExternalType 
           (λ n target object h.
               let k : takes (count args) (Some (target, object)) ≡ true = ap (takes (count args)) (sym (ends name scope f.path f.denotes n target object h)) ∙ t in
               let b = both_true (is_method object) (nat_eq (operand_count object) (count args)) k in
-              (b.0, eqb-true (operand_count object) (count args) b.1 ∙ sym (count_same shorten has says args scope))),
+              (b.0, eqb-true (operand_count object) (count args) b.1 ∙ sym (count_same shorten also has says args scope))),
           ready_values args scope d shaped.1 valid (right_none (use_errors whole at name scope ++ call_errors whole at name (count args) scope) _ e) (right_none (unless (takes (count args) (name_end whole name scope)) (WrongCount at name)) _ y),
         )
     ready_value (Apply op args targets) scope d x shaped valid e y = (
       shaped.0,
       ready_operands (asked_by op) (row_of op).operands args scope d shaped.1 valid (left_none _ (names_all whole targets scope d) e) (left_none _ (spot_types_all whole targets scope) y),
-      count_same shorten has says targets scope
+      count_same shorten also has says targets scope
           ∙ shaped.2,
       ready_spots targets scope d shaped.3 valid (right_none (names_all whole args scope d) _ e) (right_none (operand_types whole (asked_by op) (row_of op).operands args scope) _ y),
     )
-    ready_value (Buffer size bytes) scope d x shaped valid e y = (same_expression shorten has says size scope ∙ shaped.0, ready_value size scope d shaped.0 shaped.1 valid e y)
+    ready_value (Buffer size bytes) scope d x shaped valid e y = (same_expression shorten also has says size scope ∙ shaped.0, ready_value size scope d shaped.0 shaped.1 valid e y)
     ready_value (Package n elements) scope d x shaped valid e y = (shaped.0, ready_elements elements scope d shaped.1 valid e y)
     ready_value (VarPackage size elements) scope d x shaped valid e y =
-        (same_expression shorten has says size scope ∙ shaped.0, ready_value size scope d shaped.0 shaped.1 valid (left_none _ (names_all whole elements scope d) e) (left_none _ (element_types_all whole elements scope) y), ready_elements elements scope d shaped.2 valid (right_none (names whole size scope d) _ e) (right_none (types whole size scope) _ y))
+        (same_expression shorten also has says size scope ∙ shaped.0, ready_value size scope d shaped.0 shaped.1 valid (left_none _ (names_all whole elements scope d) e) (left_none _ (element_types_all whole elements scope) y), ready_elements elements scope d shaped.2 valid (right_none (names whole size scope d) _ e) (right_none (types whole size scope) _ y))
     ready_value (CondRefOf place target) scope d x shaped valid e y =
         (ready_cond place scope d shaped.0 valid (left_none _ (names whole target scope d) e) (left_none _ (spot_types whole target scope) y), ready_spot target scope d shaped.1 valid (right_none (cond_errors whole place (names whole place scope d) scope) _ e) (right_none (spot_types whole place scope) _ y))
     ready_value (Operated op args) scope d x shaped valid e y = absurd shaped.0
@@ -448,7 +426,7 @@ module _ (shorten : Bool) (whole : Whole) (says : AbsolutePath → ExternalType 
     ready_value t scope d x shaped valid e y = absurd (grind arith)
 
     -- a term that stands for a place
-    ready_spot : (t : Tree) (scope : AbsolutePath) (d : Declarations) → IsShapedSpot t → AreSegments scope → names whole t scope d ≡ [] → spot_types whole t scope ≡ [] → IsSpot known (spelled shorten has says t scope) scope
+    ready_spot : (t : Tree) (scope : AbsolutePath) (d : Declarations) → IsShapedSpot t → AreSegments scope → names whole t scope d ≡ [] → spot_types whole t scope ≡ [] → IsSpot known (spelled shorten also has says t scope) scope
     ready_spot Omitted scope d shaped valid e y = tt
     ready_spot Debug scope d shaped valid e y = tt
     ready_spot (InSlot slot) scope d shaped valid e y = shaped
@@ -457,7 +435,7 @@ module _ (shorten : Bool) (whole : Whole) (says : AbsolutePath → ExternalType 
       shaped.0,
       by_spot_form whole (spot_form op) _ _ _ _ _ _ shaped.1 y (λ h y. (
         ready_operands (asked_by op) (row_of op).operands args scope d h.0 valid (left_none _ (names_all whole targets scope d) e) (left_none _ (spot_types_all whole targets scope) y),
-        count_same shorten has says targets scope
+        count_same shorten also has says targets scope
             ∙ h.1,
         ready_spots targets scope d h.2 valid (right_none (names_all whole args scope d) _ e) (right_none (operand_types whole (asked_by op) (row_of op).operands args scope) _ y),
       )) (λ h y. ready_alone args targets scope d h valid (left_none _ (names_all whole targets scope d) e) y),
@@ -465,7 +443,7 @@ module _ (shorten : Bool) (whole : Whole) (says : AbsolutePath → ExternalType 
     ready_spot (Operated op args) scope d shaped valid e y = absurd shaped.0
     ready_spot t scope d shaped valid e y = absurd shaped
 
-    ready_cond : (t : Tree) (scope : AbsolutePath) (d : Declarations) → IsShapedSpot t → AreSegments scope → cond_errors whole t (names whole t scope d) scope ≡ [] → spot_types whole t scope ≡ [] → CondReady known (spelled shorten has says t scope) (IsSpot known (spelled shorten has says t scope) scope) scope
+    ready_cond : (t : Tree) (scope : AbsolutePath) (d : Declarations) → IsShapedSpot t → AreSegments scope → cond_errors whole t (names whole t scope d) scope ≡ [] → spot_types whole t scope ≡ [] → CondReady known (spelled shorten also has says t scope) (IsSpot known (spelled shorten also has says t scope) scope) scope
     ready_cond (Use at name) scope d shaped valid e y = few_candidates shorten name scope shaped valid
     ready_cond Omitted scope d shaped valid e y = tt
     ready_cond Debug scope d shaped valid e y = tt
@@ -474,7 +452,7 @@ module _ (shorten : Bool) (whole : Whole) (says : AbsolutePath → ExternalType 
       shaped.0,
       by_spot_form whole (spot_form op) _ _ _ _ _ _ shaped.1 y (λ h y. (
         ready_operands (asked_by op) (row_of op).operands args scope d h.0 valid (left_none _ (names_all whole targets scope d) e) (left_none _ (spot_types_all whole targets scope) y),
-        count_same shorten has says targets scope
+        count_same shorten also has says targets scope
             ∙ h.1,
         ready_spots targets scope d h.2 valid (right_none (names_all whole args scope d) _ e) (right_none (operand_types whole (asked_by op) (row_of op).operands args scope) _ y),
       )) (λ h y. ready_alone args targets scope d h valid (left_none _ (names_all whole targets scope d) e) y),
@@ -482,45 +460,45 @@ module _ (shorten : Bool) (whole : Whole) (says : AbsolutePath → ExternalType 
     ready_cond (Operated op args) scope d shaped valid e y = absurd shaped.0
     ready_cond t scope d shaped valid e y = absurd shaped
 
-    ready_alone : (args targets : Trees) (scope : AbsolutePath) (d : Declarations) → IsShapedAlone args targets → AreSegments scope → names_all whole args scope d ≡ [] → first_types whole args scope ≡ [] → IsAlone known (spelled_all shorten has says args scope) (spelled_all shorten has says targets scope) scope
+    ready_alone : (args targets : Trees) (scope : AbsolutePath) (d : Declarations) → IsShapedAlone args targets → AreSegments scope → names_all whole args scope d ≡ [] → first_types whole args scope ≡ [] → IsAlone known (spelled_all shorten also has says args scope) (spelled_all shorten also has says targets scope) scope
     ready_alone (tree t no_trees) no_trees scope d shaped valid e y =
-        (same_expression shorten has says t scope ∙ shaped.0, ready_value t scope d shaped.0 shaped.1 valid (left_none _ (names_all whole no_trees scope (declare t scope d)) e) y)
+        (same_expression shorten also has says t scope ∙ shaped.0, ready_value t scope d shaped.0 shaped.1 valid (left_none _ (names_all whole no_trees scope (declare t scope d)) e) y)
     ready_alone (tree t no_trees) (tree u us) scope d shaped valid e y = absurd shaped
     ready_alone (tree t (tree u us)) targets scope d shaped valid e y = absurd shaped
     ready_alone no_trees targets scope d shaped valid e y = absurd shaped
 
-    ready_operands : (asked : Asked) (letters : List Letter) (ts : Trees) (scope : AbsolutePath) (d : Declarations) → AreShapedOperands letters ts → AreSegments scope → names_all whole ts scope d ≡ [] → operand_types whole asked letters ts scope ≡ [] → AreOperands known letters (spelled_all shorten has says ts scope) scope
+    ready_operands : (asked : Asked) (letters : List Letter) (ts : Trees) (scope : AbsolutePath) (d : Declarations) → AreShapedOperands letters ts → AreSegments scope → names_all whole ts scope d ≡ [] → operand_types whole asked letters ts scope ≡ [] → AreOperands known letters (spelled_all shorten also has says ts scope) scope
     ready_operands asked [] no_trees scope d shaped valid e y = tt
     ready_operands asked [] (tree t ts) scope d shaped valid e y = absurd shaped
     ready_operands asked (letter ∷ letters) no_trees scope d shaped valid e y = absurd shaped
     ready_operands asked (letter ∷ letters) (tree t ts) scope d shaped valid e y =
         let e0 = left_none _ (names_all whole ts scope (declare t scope d)) e in (
-          ready_letter letter asked t scope d _ _ shaped.0 valid e0 (left_none _ (operand_types whole asked letters ts scope) y) (λ h y. (same_expression shorten has says t scope ∙ h.0, ready_value t scope d h.0 h.1 valid e0 y)) (λ h y. ready_spot t scope d h valid e0 y),
+          ready_letter letter asked t scope d _ _ shaped.0 valid e0 (left_none _ (operand_types whole asked letters ts scope) y) (λ h y. (same_expression shorten also has says t scope ∙ h.0, ready_value t scope d h.0 h.1 valid e0 y)) (λ h y. ready_spot t scope d h valid e0 y),
           ready_operands asked letters ts scope (declare t scope d) shaped.1 valid (right_none (names whole t scope d) _ e) (right_none (letter_types whole letter (types whole t scope) (spot_types whole t scope) (used_types whole asked t scope)) _ y),
         )
 
-    ready_spots : (ts : Trees) (scope : AbsolutePath) (d : Declarations) → AreShapedSpots ts → AreSegments scope → names_all whole ts scope d ≡ [] → spot_types_all whole ts scope ≡ [] → AreSpots known (spelled_all shorten has says ts scope) scope
+    ready_spots : (ts : Trees) (scope : AbsolutePath) (d : Declarations) → AreShapedSpots ts → AreSegments scope → names_all whole ts scope d ≡ [] → spot_types_all whole ts scope ≡ [] → AreSpots known (spelled_all shorten also has says ts scope) scope
     ready_spots no_trees scope d shaped valid e y = tt
     ready_spots (tree t ts) scope d shaped valid e y =
         (ready_spot t scope d shaped.0 valid (left_none _ (names_all whole ts scope (declare t scope d)) e) (left_none _ (spot_types_all whole ts scope) y), ready_spots ts scope (declare t scope d) shaped.1 valid (right_none (names whole t scope d) _ e) (right_none (spot_types whole t scope) _ y))
 
-    ready_values : (ts : Trees) (scope : AbsolutePath) (d : Declarations) → AreShapedValues ts → AreSegments scope → names_all whole ts scope d ≡ [] → types_all whole ts scope ≡ [] → AreValues known (spelled_all shorten has says ts scope) scope
+    ready_values : (ts : Trees) (scope : AbsolutePath) (d : Declarations) → AreShapedValues ts → AreSegments scope → names_all whole ts scope d ≡ [] → types_all whole ts scope ≡ [] → AreValues known (spelled_all shorten also has says ts scope) scope
     ready_values no_trees scope d shaped valid e y = tt
     ready_values (tree t ts) scope d shaped valid e y =
-        (same_expression shorten has says t scope ∙ shaped.0, ready_value t scope d shaped.0 shaped.1 valid (left_none _ (names_all whole ts scope (declare t scope d)) e) (left_none _ (types_all whole ts scope) y), ready_values ts scope (declare t scope d) shaped.2 valid (right_none (names whole t scope d) _ e) (right_none (types whole t scope) _ y))
+        (same_expression shorten also has says t scope ∙ shaped.0, ready_value t scope d shaped.0 shaped.1 valid (left_none _ (names_all whole ts scope (declare t scope d)) e) (left_none _ (types_all whole ts scope) y), ready_values ts scope (declare t scope d) shaped.2 valid (right_none (names whole t scope d) _ e) (right_none (types whole t scope) _ y))
 
-    ready_elements : (ts : Trees) (scope : AbsolutePath) (d : Declarations) → AreShapedElements ts → AreSegments scope → names_all whole ts scope d ≡ [] → element_types_all whole ts scope ≡ [] → AreElements known (spelled_elements shorten has says ts scope) scope
+    ready_elements : (ts : Trees) (scope : AbsolutePath) (d : Declarations) → AreShapedElements ts → AreSegments scope → names_all whole ts scope d ≡ [] → element_types_all whole ts scope ≡ [] → AreElements known (spelled_elements shorten also has says ts scope) scope
     ready_elements no_trees scope d shaped valid e y = tt
     ready_elements (tree t ts) scope d shaped valid e y =
         let e0 = left_none _ (names_all whole ts scope (declare t scope d)) e in
         (ready_element t scope d shaped.0 valid e0 (left_none _ (element_types_all whole ts scope) y) (λ x h y. ready_value t scope d x h valid e0 y), ready_elements ts scope (declare t scope d) shaped.1 valid (right_none (names whole t scope d) _ e) (right_none (element_types whole t (types whole t scope)) _ y))
 
   -- a used name without errors is found
-  is_found : (at : At) (name : Path) (scope : AbsolutePath) → IsUsedName name → AreSegments scope → use_errors whole at name scope ≡ [] → IsFound known (spelled_use has shorten name scope) scope
+  is_found : (at : At) (name : Path) (scope : AbsolutePath) → IsUsedName name → AreSegments scope → use_errors whole at name scope ≡ [] → IsFound known (spelled_use also has shorten name scope) scope
   is_found at name scope used valid e = let f = found shorten at name scope used valid e in (f.path, f.spells)
 
   -- the units of a field are known, and its connections are found
-  ready_units : (items : List (FieldItem UnitName)) (scope : AbsolutePath) (d : Declarations) (at : ℕ) → AreItems at items → AreSegments scope → items_errors whole items scope d ≡ [] → Within (declare_items items scope d) whole.all → AreUnits known (items_spelled shorten has items scope) scope
+  ready_units : (items : List (FieldItem UnitName)) (scope : AbsolutePath) (d : Declarations) (at : ℕ) → AreItems at items → AreSegments scope → items_errors whole items scope d ≡ [] → Within (declare_items items scope d) whole.all → AreUnits known (items_spelled shorten also has items scope) scope
   ready_units [] scope d at shaped valid e w = tt
   ready_units (UnitItem name bits ∷ items) scope d at shaped valid e w =
       let d' = with_declared (name.segment ∷ scope) as_unit d in
@@ -536,7 +514,7 @@ module _ (shorten : Bool) (whole : Whole) (says : AbsolutePath → ExternalType 
   ready_units (ConnectionItem (ToBytes bytes) ∷ items) scope d at shaped valid e w = (tt, ready_units items scope d at shaped.1 valid e w)
 
   -- the items of a field can be written once their names are spelled
-  ready_items : (items : List (FieldItem UnitName)) (scope : AbsolutePath) (at : ℕ) → AreItems at items → AreUnits known (items_spelled shorten has items scope) scope → AreItems at (items_spelled shorten has items scope)
+  ready_items : (items : List (FieldItem UnitName)) (scope : AbsolutePath) (at : ℕ) → AreItems at items → AreUnits known (items_spelled shorten also has items scope) scope → AreItems at (items_spelled shorten also has items scope)
   ready_items [] scope at shaped units = tt
   ready_items (UnitItem name bits ∷ items) scope at shaped units = (shaped.0, ready_items items scope (at + bits) shaped.1 units.1)
   ready_items (SkipItem bits ∷ items) scope at shaped units = (shaped.0, ready_items items scope (at + bits) shaped.1 units)
@@ -546,7 +524,7 @@ module _ (shorten : Bool) (whole : Whole) (says : AbsolutePath → ExternalType 
   ready_items (ConnectionItem (ToBytes bytes) ∷ items) scope at shaped units = (tt, ready_items items scope at shaped.1 units.1)
 
   mutual
-    ready : (t : Tree) (scope : AbsolutePath) (d : Declarations) → IsShaped t → AreSegments scope → names whole t scope d ≡ [] → types whole t scope ≡ [] → Within (declare t scope d) whole.all → IsReady known (spelled shorten has says t scope) scope
+    ready : (t : Tree) (scope : AbsolutePath) (d : Declarations) → IsShaped t → AreSegments scope → names whole t scope d ≡ [] → types whole t scope ≡ [] → Within (declare t scope d) whole.all → IsReady known (spelled shorten also has says t scope) scope
     ready (Integer number) scope d shaped valid e y w = ready_value (Integer number) scope d refl shaped valid e y
     ready (Constant literal) scope d shaped valid e y w = ready_value (Constant literal) scope d refl shaped valid e y
     ready (String text) scope d shaped valid e y w = ready_value (String text) scope d refl shaped valid e y
@@ -561,9 +539,9 @@ module _ (shorten : Bool) (whole : Whole) (says : AbsolutePath → ExternalType 
     ready (CondRefOf place target) scope d shaped valid e y w = ready_value (CondRefOf place target) scope d refl shaped valid e y
     ready Omitted scope d shaped valid e y w = absurd shaped
     ready (Raw size number) scope d shaped valid e y w = absurd shaped
-    ready (Return value) scope d shaped valid e y w = (same_expression shorten has says value scope ∙ shaped.0, ready_value value scope d shaped.0 shaped.1 valid e y)
+    ready (Return value) scope d shaped valid e y w = (same_expression shorten also has says value scope ∙ shaped.0, ready_value value scope d shaped.0 shaped.1 valid e y)
     ready (Name at name value) scope d shaped valid e y w =
-        (declared_known at name scope d (As DataObject) (left_none _ (names whole value scope d) e) w shaped.0, same_expression shorten has says value scope ∙ shaped.1, ready_value value scope d shaped.1 shaped.2 valid (right_none (declared_errors whole at name scope d) _ e) y)
+        (declared_known at name scope d (As DataObject) (left_none _ (names whole value scope d) e) w shaped.0, same_expression shorten also has says value scope ∙ shaped.1, ready_value value scope d shaped.1 shaped.2 valid (right_none (declared_errors whole at name scope d) _ e) y)
     ready (Alias from source at name) scope d shaped valid e y w =
         let f = found shorten from source scope shaped.0 valid (left_none _ (declared_errors whole at name scope d) e) in
         let k = declared_known at name scope d (AliasOf source scope) (right_none (use_errors whole from source scope) _ e) w shaped.1 in
@@ -592,14 +570,14 @@ module _ (shorten : Bool) (whole : Whole) (says : AbsolutePath → ExternalType 
         ap (λ o. choose o [] (λ path. unless (is_same_path path inner) (Missing at name) ++ unless (is_container (final known path)) (NoContainer here name))) (sym den) ∙ right_none (use_errors whole at name scope) _ e0 in
         let is : f.path ≡ inner = is_same_path-true f.path inner (holds (is_same_path f.path inner) (Missing at name) (left_none _ (unless (is_container (final known f.path)) (NoContainer here name)) es)) in
         let y' : types_all whole body f.path ≡ [] = ap (λ o. types_all whole body (choose o [] (λ path. path))) (sym den) ∙ y in
-        let at_path : AreReady known (spelled_all shorten has says body f.path) f.path =
+        let at_path : AreReady known (spelled_all shorten also has says body f.path) f.path =
         ready_all body f.path d shaped.1 f.segments (ap (λ p. names_all whole body p d) is ∙ right_none (use_errors whole at name scope ++ scope_errors whole here at name scope d) _ e) y' (subst (λ p. Within (declare_all body p d) whole.all) (sym is) w) in
-        (f.path, f.spells, subst (λ p. AreReady known (spelled_all shorten has says body p) f.path) (sym (ap (λ o. choose o [] (λ path. path)) f.denotes)) at_path)
+        (f.path, f.spells, subst (λ p. AreReady known (spelled_all shorten also has says body p) f.path) (sym (ap (λ o. choose o [] (λ path. path)) f.denotes)) at_path)
     ready (If test body) scope d shaped valid e y w =
-        (same_expression shorten has says test scope ∙ shaped.0, ready_value test scope d shaped.0 shaped.1 valid (left_none _ (names_all whole body scope d) e) (left_none _ (types_all whole body scope) y), ready_all body scope d shaped.2 valid (right_none (names whole test scope d) _ e) (right_none (types whole test scope) _ y) w)
+        (same_expression shorten also has says test scope ∙ shaped.0, ready_value test scope d shaped.0 shaped.1 valid (left_none _ (names_all whole body scope d) e) (left_none _ (types_all whole body scope) y), ready_all body scope d shaped.2 valid (right_none (names whole test scope d) _ e) (right_none (types whole test scope) _ y) w)
     ready (Else body) scope d shaped valid e y w = ready_all body scope d shaped valid e y w
     ready (While test body) scope d shaped valid e y w =
-        (same_expression shorten has says test scope ∙ shaped.0, ready_value test scope d shaped.0 shaped.1 valid (left_none _ (names_all whole body scope d) e) (left_none _ (types_all whole body scope) y), ready_all body scope d shaped.2 valid (right_none (names whole test scope d) _ e) (right_none (types whole test scope) _ y) w)
+        (same_expression shorten also has says test scope ∙ shaped.0, ready_value test scope d shaped.0 shaped.1 valid (left_none _ (names_all whole body scope d) e) (left_none _ (types_all whole body scope) y), ready_all body scope d shaped.2 valid (right_none (names whole test scope d) _ e) (right_none (types whole test scope) _ y) w)
     ready Break scope d shaped valid e y w = tt
     ready Continue scope d shaped valid e y w = tt
     ready (OperationRegion at name space args) scope d shaped valid e y w =
@@ -618,7 +596,7 @@ module _ (shorten : Bool) (whole : Whole) (says : AbsolutePath → ExternalType 
         let units = ready_units items scope d 0 shaped.5 valid (right_none (names whole value scope d) _ e'') w in (
           is_found from region scope shaped.0 valid (left_none _ (use_errors whole to bank scope ++ (names whole value scope d ++ items_errors whole items scope d)) e),
           is_found to bank scope shaped.1 valid (left_none _ (names whole value scope d ++ items_errors whole items scope d) e'),
-          same_expression shorten has says value scope
+          same_expression shorten also has says value scope
               ∙ shaped.2,
           ready_value value scope d shaped.2 shaped.3 valid (left_none _ (items_errors whole items scope d) e'') y',
           shaped.4,
@@ -640,7 +618,7 @@ module _ (shorten : Bool) (whole : Whole) (says : AbsolutePath → ExternalType 
     ready (Print place format args) scope d shaped valid e y w = absurd shaped.0
     ready Misshapen scope d shaped valid e y w = absurd shaped
 
-    pub ready_all : (ts : Trees) (scope : AbsolutePath) (d : Declarations) → AreShaped ts → AreSegments scope → names_all whole ts scope d ≡ [] → types_all whole ts scope ≡ [] → Within (declare_all ts scope d) whole.all → AreReady known (spelled_all shorten has says ts scope) scope
+    pub ready_all : (ts : Trees) (scope : AbsolutePath) (d : Declarations) → AreShaped ts → AreSegments scope → names_all whole ts scope d ≡ [] → types_all whole ts scope ≡ [] → Within (declare_all ts scope d) whole.all → AreReady known (spelled_all shorten also has says ts scope) scope
     ready_all no_trees scope d shaped valid e y w = tt
     ready_all (tree t ts) scope d shaped valid e y w =
         let e' = right_none (names whole t scope d) (names_all whole ts scope (declare t scope d)) e in

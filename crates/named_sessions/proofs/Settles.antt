@@ -11,7 +11,7 @@ use Rattle.asl_tree.specs.declared.path.Path.{Path}
 use Rattle.asl_tree.specs.Names.{Is, Known, is_known, kind_at, declared_path}
 use Rattle.asl_meaning.specs.Declarations.{Declared, As, AliasOf, ExternalType, Declarations, nothing_declared, in_root, is_named, scope_path, with_declared, with_external, declare, declare_all, declarations, calls_all, called, external_object, kind_of, declared_kinds, external_names, as_known, externals, known_of, as_unit, as_buffer_field, declare_items}
 use Rattle.asl_tree.specs.FieldItems.{FieldItem, UnitItem, SkipItem, OffsetItem, AccessItem, ConnectionItem, ToName, ToBytes}
-use Rattle.asl_tree.specs.Tree.{At, Tree, Name, Alias, External, Method, Container', Scope, Trees, no_trees, tree, Mutex, Event, OperationRegion, Field, IndexField, BankField, CreateField, UnitName, If, ElseIf, Else, While, Switch, Case, Default, For, Print}
+use Rattle.asl_tree.specs.Tree.{At, Tree, Name, Alias, External, Method, Container', Scope, Trees, no_trees, tree, Mutex, Event, OperationRegion, Field, IndexField, BankField, CreateField, UnitName, If, ElseIf, Else, While, Switch, Case, Default, For}
 use Rattle.asl_meaning.proofs.Agreements.{AreKnownAs}
 use Rattle.asl_meaning.proofs.SameSessions.{IsKnownStart}
 use Rattle.acpi_names.specs.Errors.{Twice, DeclaredHere, Missing, Differs, TooLong, unless, Whole, whole_of, step_errors, length_errors, has_parent, is_new, same_count, agrees_with, declared_errors, external_errors, use_errors, scope_errors, names, names_all, name_errors, unit_path, items_errors}

@@ -1,5 +1,6 @@
 -- A definition block, what may be wrong with it, and its table.
 use Rattle.std.specs.Prelude.{◌≡◌, ℕ, Bool, ◌<◌, ◌≤◌, ◌^◌, List, [], length}
+use Rattle.acpi_values.specs.Paths.{AbsolutePath}
 use Rattle.acpi_values.specs.Revisions.{width_of}
 use Rattle.asl_tree.specs.declared.program.Block.{Block}
 use Rattle.asl_tree.specs.Tree.{Trees}
@@ -10,7 +11,7 @@ use Rattle.aml_meaning.specs.Encoded.{encoded_all}
 use Rattle.aml_meaning.specs.ByteSession.{IsFaithful}
 use Rattle.acpi_names.specs.Errors.{name_errors, type_errors}
 use Rattle.named_sessions.specs.Shaped.{AreShaped}
-use Rattle.named_sessions.specs.Core.{core_of}
+use Rattle.named_sessions.specs.Core.{core_beside}
 
 -- the terms of a block
 abbrev pub terms_of : Block → Trees
@@ -30,10 +31,11 @@ pub record IsRightBlock (block : Block) : Type 0 where
   pub counts : type_errors (terms_of block) ≡ []
 
 -- the table of a block: its header, and the bytes of its terms with their names spelled, at the width that its revision gives;
--- whether 0, 1 and all ones have a byte of their own, and whether names are shortened, is the caller's choice
-abbrev pub block_table : Bool → Bool → Block → List ℕ
-block_table short shorten block =
-    table_bytes (fields_of block) (encoded_all (width_of block.revision) short (core_of shorten (terms_of block)))
+-- whether 0, 1 and all ones have a byte of their own, whether names are shortened, and what stands in their way besides, is the
+-- caller's choice
+abbrev pub block_table : Bool → Bool → (also : AbsolutePath → Bool) → Block → List ℕ
+block_table short shorten also block =
+    table_bytes (fields_of block) (encoded_all (width_of block.revision) short (core_beside shorten also (terms_of block)))
 
 -- bytes that begin with the header that the block states, and that do what the block does at the width that its revision gives
 pub record DoesAs (block : Block) (bytes : List ℕ) : Type 0 where

@@ -1,5 +1,5 @@
 -- The core of a program: what is written of it.
-use Rattle.std.specs.Prelude.{Bool, []}
+use Rattle.std.specs.Prelude.{Bool, false, []}
 use Rattle.acpi_values.specs.Paths.{AbsolutePath}
 use Rattle.asl_tree.specs.Names.{is_known}
 use Rattle.asl_tree.specs.Tree.{Trees}
@@ -11,6 +11,10 @@ use Rattle.acpi_names.specs.Spelled.{spelled_all}
 abbrev pub says_of : Trees → AbsolutePath → ExternalType → ExternalType
 says_of program = written_external (whole_of program).calls
 
--- the program with its names spelled, shortened or not
+-- the program with its names spelled, shortened or not, where `also` may stand in their way
+abbrev pub core_beside : Bool → (also : AbsolutePath → Bool) → Trees → Trees
+core_beside shorten also program = spelled_all shorten also (is_known (known_of program)) (says_of program) program []
+
+-- the same of a program that stands alone
 abbrev pub core_of : Bool → Trees → Trees
-core_of shorten program = spelled_all shorten (is_known (known_of program)) (says_of program) program []
+core_of shorten program = core_beside shorten (λ path. false) program

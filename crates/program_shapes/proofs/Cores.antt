@@ -12,7 +12,7 @@ use Rattle.acpi_names.specs.Tables.{Tabled}
 use Rattle.acpi_names.specs.Terms.{are_terms}
 use Rattle.asl_lower.specs.Nodes.{named_all}
 use Rattle.asl_lower.proofs.Declared.{same_declarations, same_first_call}
-use Rattle.named_sessions.specs.Core.{core_of}
+use Rattle.named_sessions.specs.Core.{core_beside}
 use Rattle.named_sessions.specs.Shaped.{AreFormed, AreNamed}
 use Rattle.named_sessions.proofs.Terms.{formed_terms}
 use Rattle.asl_prints.specs.Forms.{formed_all}
@@ -34,24 +34,24 @@ same_calls : (program : Trees) → are_terms program ≡ true → (path : Absolu
 same_calls program terms path =
     ap (λ d. lookup (called (calls_all (is_named d) (named_all program) [] nothing_declared)) path) (same_declarations program) ∙ same_first_call program terms (is_named (declarations program)) path
 
-pub core_lowered : (wrap fold : Bool) (width : Width) (shorten : Bool) (paths : List AbsolutePath) (named : List Bool) (table : List (Option ℕ)) (program spelt : Trees) → are_terms program ≡ true
-    → ((d : Declarations) (counts : List (AbsolutePath × ℕ)) → Agrees paths named d → Tabled paths table (lookup counts) → spelt ≡ spelled_all shorten (is_named d) (written_external counts) (wrapped_where wrap (folded_where fold width (named_all program))) [])
-    → Agrees paths named (declarations program) → Tabled paths table (lookup (whole_of program).calls) → spelt ≡ core_of shorten (wrapped_where wrap (folded_where fold width (named_all program)))
-core_lowered wrap fold width shorten paths named table program spelt terms spells agrees tabled =
+pub core_lowered : (wrap fold : Bool) (width : Width) (shorten : Bool) (beside : AbsolutePath → Bool) (paths : List AbsolutePath) (named : List Bool) (table : List (Option ℕ)) (program spelt : Trees) → are_terms program ≡ true
+    → ((d : Declarations) (counts : List (AbsolutePath × ℕ)) → Agrees paths named d → Tabled paths table (lookup counts) → spelt ≡ spelled_all shorten beside (is_named d) (written_external counts) (wrapped_where wrap (folded_where fold width (named_all program))) [])
+    → Agrees paths named (declarations program) → Tabled paths table (lookup (whole_of program).calls) → spelt ≡ core_beside shorten beside (wrapped_where wrap (folded_where fold width (named_all program)))
+core_lowered wrap fold width shorten beside paths named table program spelt terms spells agrees tabled =
     let lowered = folded_where fold width (named_all program) in
     let core = wrapped_where wrap lowered in
-    core_spelled shorten paths named table core spelt spells (subst (Agrees paths named) (sym (wrapped.where_declarations wrap lowered ∙ where_declarations fold width (named_all program) ∙ same_declarations program)) agrees)
+    core_spelled shorten beside paths named table core spelt spells (subst (Agrees paths named) (sym (wrapped.where_declarations wrap lowered ∙ where_declarations fold width (named_all program) ∙ same_declarations program)) agrees)
     (λ path. tabled path ∙ sym (ap (λ whole. lookup whole.calls path) (wrapped.where_whole wrap lowered ∙ where_whole fold width (named_all program)) ∙ same_calls program terms path))
 
 -- the same with what stands for Fors and for what prints, and loops for Switches
-pub core_looped : (wrap fold : Bool) (width : Width) (shorten : Bool) (paths : List AbsolutePath) (named : List Bool) (table : List (Option ℕ)) (program spelt : Trees) → AreFormed (Unit {0}) AreNamed (Unit {0}) (Unit {0}) program
+pub core_looped : (wrap fold : Bool) (width : Width) (shorten : Bool) (beside : AbsolutePath → Bool) (paths : List AbsolutePath) (named : List Bool) (table : List (Option ℕ)) (program spelt : Trees) → AreFormed (Unit {0}) AreNamed (Unit {0}) (Unit {0}) program
     → AreNear program → name_errors program ≡ [] → type_errors program ≡ []
     → ((d : Declarations) (counts : List (AbsolutePath × ℕ)) → Agrees paths named d → Tabled paths table (lookup counts)
-    → spelt ≡ spelled_all shorten (is_named d) (written_external counts) (wrapped_where wrap (folded_where fold width (named_all (without_switches (formed_all program))))) [])
-    → Agrees paths named (declarations program) → Tabled paths table (lookup (whole_of program).calls) → spelt ≡ core_of shorten (wrapped_where wrap (folded_where fold width (named_all (without_switches (formed_all program)))))
-core_looped wrap fold width shorten paths named table program spelt formed near names counts spells agrees tabled =
+    → spelt ≡ spelled_all shorten beside (is_named d) (written_external counts) (wrapped_where wrap (folded_where fold width (named_all (without_switches (formed_all program))))) [])
+    → Agrees paths named (declarations program) → Tabled paths table (lookup (whole_of program).calls) → spelt ≡ core_beside shorten beside (wrapped_where wrap (folded_where fold width (named_all (without_switches (formed_all program)))))
+core_looped wrap fold width shorten beside paths named table program spelt formed near names counts spells agrees tabled =
     let plain : Trees = formed_all program in
     let left : AreFormed ⊥ AreNamed (Unit {0}) (Unit {0}) plain = forms_formed AreNamed (Unit {0}) (Unit {0}) program formed near in
-    core_lowered wrap fold width shorten paths named table (without_switches plain) spelt (formed_terms ⊥ AreNamed (Unit {0}) ⊥ (without_switches plain) (loops_formed AreNamed (Unit {0}) (Unit {0}) plain left)) spells
+    core_lowered wrap fold width shorten beside paths named table (without_switches plain) spelt (formed_terms ⊥ AreNamed (Unit {0}) ⊥ (without_switches plain) (loops_formed AreNamed (Unit {0}) (Unit {0}) plain left)) spells
     (subst (Agrees paths named) (sym (loops.same_declarations AreNamed (Unit {0}) (Unit {0}) plain left ∙ forms.same_declarations program)) agrees)
     (λ path. tabled path ∙ sym (ap (λ whole. lookup whole.calls path) (loops.same_whole AreNamed (Unit {0}) (Unit {0}) plain left) ∙ same_first AreNamed (Unit {0}) (Unit {0}) program formed near names counts path))

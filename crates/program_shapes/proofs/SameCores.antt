@@ -8,7 +8,7 @@ use Rattle.acpi_state.specs.Sessions.{Request, present_ones}
 use Rattle.asl_meaning.specs.Declarations.{known_of, externals}
 use Rattle.asl_meaning.specs.SourceSession.{source_session}
 use Rattle.named_sessions.specs.Shaped.{AreFormed, AreNamed}
-use Rattle.named_sessions.specs.Core.{says_of, core_of}
+use Rattle.named_sessions.specs.Core.{says_of, core_beside}
 use Rattle.named_sessions.proofs.Spelled.{same_source}
 use Rattle.named_sessions.proofs.Terms.{formed_terms}
 use Rattle.acpi_names.specs.Errors.{name_errors, type_errors}
@@ -32,13 +32,13 @@ use Rattle.wrapped_externals.proofs.Asked as wrapped
 use Rattle.asl_parser.specs.declared.raw.Raw.{Raw}
 use Rattle.asl_parser.specs.Written.{writtens}
 use Rattle.program_shapes.specs.Kept.{IsKeptSource}
-use Rattle.program_shapes.specs.Sources.{plans_in, terms_in, width_in, lowered_in, core_in, IsRight}
+use Rattle.program_shapes.specs.Sources.{plans_in, terms_in, width_in, lowered_in, core_in, described_in, spelled_in, IsRight}
 use Rattle.program_shapes.proofs.Near.{plans_near}
 use Rattle.program_shapes.proofs.Stripped.{right_names, right_kinds}
 use Rattle.program_shapes.proofs.Tables.{terms_are_formed, core_is_shaped}
 
 pub same_cores : (wrap fold shorten : Bool) (items : List Raw) → IsRight items → IsKeptSource (writtens items) → (present : List AbsolutePath) (n : ℕ) (answers : List Value) (requests : List Request) → IsAsked (width_in items) n answers requests
-    → source_session (width_in items) (known_of (terms_in items)) (core_of shorten (core_in wrap fold items)) (present_ones (externals (terms_in items)) present) n answers requests
+    → source_session (width_in items) (known_of (terms_in items)) (spelled_in wrap fold shorten items) (present_ones (externals (terms_in items)) present) n answers requests
     ≡ source_session (width_in items) (known_of (terms_in items)) (terms_in items) (present_ones (externals (terms_in items)) present) n answers requests
 same_cores wrap fold shorten items right kept present n answers requests asked =
     let width = width_in items in
@@ -60,9 +60,9 @@ same_cores wrap fold shorten items right kept present n answers requests asked =
     wrapped.where_known wrap lowered ∙ where_known fold width named ∙ lower.same_known turns terms ∙ looped.same_known AreNamed (Unit {0}) (Unit {0}) plain left
     ∙ others.same_known AreNamed (Unit {0}) (Unit {0}) program formed near own_names own_kinds in
     let same_others : externals plain ≡ externals program = others.same_externals AreNamed (Unit {0}) (Unit {0}) program formed near own_names own_kinds in
-    let spelled : source_session width (known_of core) core there n answers requests ≡ source_session width (known_of core) (core_of shorten core) there n answers requests
-    = same_source shorten width (says_of core) (known_of core) core (wrapped.where_shaped wrap lowered (where_shaped fold width named (core_is_shaped items right.form right.statements right.layouts kept))) there n answers requests in
-    subst (λ known. source_session width known (core_of shorten core) there n answers requests ≡ source_session width known core there n answers requests) same_known (sym spelled)
+    let spelled : source_session width (known_of core) core there n answers requests ≡ source_session width (known_of core) (core_beside shorten (described_in items) core) there n answers requests
+    = same_source shorten (described_in items) width (says_of core) (known_of core) core (wrapped.where_shaped wrap lowered (where_shaped fold width named (core_is_shaped items right.form right.statements right.layouts kept))) there n answers requests in
+    subst (λ known. source_session width known (core_beside shorten (described_in items) core) there n answers requests ≡ source_session width known core there n answers requests) same_known (sym spelled)
     ∙ wrapped.where_sessions wrap width (known_of program) lowered there n answers requests
     ∙ where_sessions fold width (known_of program) named there n answers requests
     ∙ same_named width (known_of program) turns there n answers requests

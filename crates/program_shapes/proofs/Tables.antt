@@ -6,7 +6,6 @@ use Rattle.aml_code.specs.Header.{header_length, checksum_of, header_with}
 use Rattle.aml_meaning.specs.Encoded.{encoded_all}
 use Rattle.aml_sessions.proofs.Tables.{definition_is, width_is, is_header}
 use Rattle.named_sessions.specs.Shaped.{AreFormed, AreNamed, AreShaped}
-use Rattle.named_sessions.specs.Core.{core_of}
 use Rattle.named_sessions.proofs.Main.{is_faithful}
 use Rattle.named_sessions.proofs.Terms.{formed_terms}
 use Rattle.acpi_names.specs.Errors.{name_errors, type_errors}
@@ -44,7 +43,7 @@ use Rattle.program_shapes.proofs.Laid.{terms_laid}
 use Rattle.program_shapes.proofs.Near.{plans_near}
 use Rattle.program_shapes.proofs.Stripped.{right_names, right_kinds}
 use Rattle.descriptor_shapes.proofs.Resolved.{resolved_formed}
-use Rattle.program_shapes.specs.Sources.{source_in, plans_in, terms_in, statements_in, layouts_in, fields_in, width_in, lowered_in, core_in, table_in, IsRight, IsTableOfSource}
+use Rattle.program_shapes.specs.Sources.{source_in, plans_in, terms_in, statements_in, layouts_in, fields_in, width_in, lowered_in, core_in, described_in, spelled_in, table_in, IsRight, IsTableOfSource}
 use Rattle.program_shapes.proofs.Folded.{does_unfolded}
 use Rattle.program_shapes.proofs.Wrapped.{does_unwrapped}
 use Rattle.program_shapes.proofs.Blocks.{terms_as, room_in}
@@ -93,7 +92,7 @@ does_as wrap fold short shorten items right kept within =
     let named = named_all loops in
     let lowered = lowered_in fold items in
     let core = core_in wrap fold items in
-    let content = encoded_all width short (core_of shorten core) in
+    let content = encoded_all width short (spelled_in wrap fold shorten items) in
     let size = header_length + length content in
     let header = header_with fields size (checksum_of (header_with fields size 0 ++ content)) in
     let small : length content ≤ 16777216 = omega (arith, within, length-append header content) in
@@ -114,7 +113,7 @@ does_as wrap fold short shorten items right kept within =
       faithful = does_formed AreNamed (Unit {0}) (Unit {0}) program formed near own_names own_kinds width table
           (does_unswitched AreNamed (Unit {0}) (Unit {0}) plain left locals width table
           (lowered_faithful width loops table terms (does_unfolded fold width named table (does_unwrapped wrap width lowered table
-          (is_faithful shorten width short core table (wrapped.where_shaped wrap lowered (where_shaped fold width named (core_is_shaped items right.form right.statements right.layouts kept)))
+          (is_faithful shorten (described_in items) width short core table (wrapped.where_shaped wrap lowered (where_shaped fold width named (core_is_shaped items right.form right.statements right.layouts kept)))
           (wrapped.where_name_errors wrap lowered ∙ where_name_errors fold width named ∙ no_name_errors loops terms names) (wrapped.where_type_errors wrap lowered ∙ where_type_errors fold width named ∙ no_type_errors loops terms counts)
           (width_is fields content signature) (omega (arith, small)) (definition_is fields content signature (omega (arith, small))))))));
     }

@@ -1,5 +1,6 @@
 -- What a block of a source says, which is read alone, and its table; and when nothing is wrong with a source of several.
 use Rattle.std.specs.Prelude.{◌≡◌, ℕ, ◌%◌, Bool, List, [], ◌∷◌}
+use Rattle.acpi_values.specs.Paths.{AbsolutePath}
 use Rattle.acpi_values.specs.Revisions.{width_of}
 use Rattle.acpi_values.specs.declared.width.Width.{Width}
 use Rattle.asl_tree.specs.Tree.{Trees}
@@ -7,7 +8,7 @@ use Rattle.asl_meaning.specs.Declarations.{known_of, externals}
 use Rattle.aml_code.specs.Header.{HeaderFields, table_bytes, IsHeader}
 use Rattle.aml_meaning.specs.Encoded.{encoded_all}
 use Rattle.aml_meaning.specs.ByteSession.{IsFaithful}
-use Rattle.named_sessions.specs.Core.{core_of}
+use Rattle.named_sessions.specs.Core.{core_beside}
 use Rattle.asl_lower.specs.Nodes.{named_all}
 use Rattle.asl_fold.specs.Folds.{folded_where}
 use Rattle.wrapped_externals.specs.Wraps.{wrapped_where}
@@ -19,7 +20,7 @@ use Rattle.asl_shape.specs.Plans.{Plans, plan_at, text_of, number_of}
 use Rattle.asl_shape.specs.Forms.{errors_at, alone, args_of, terms_of}
 use Rattle.asl_numbers.specs.Numbers.{numbered_all}
 use Rattle.descriptor_fields.specs.Declaring.{declaring}
-use Rattle.descriptor_checks.specs.Resolved.{checked_terms, resolved_terms, names_of, mentions_of}
+use Rattle.descriptor_checks.specs.Resolved.{checked_terms, resolved_terms, described_paths, names_of, mentions_of}
 use Rattle.name_notes.specs.Notes.{mentioned_notes}
 use Rattle.descriptor_checks.specs.Told.{names_told, kinds_told, owners_of}
 use Rattle.iasl_messages.specs.declared.message.Message.{Message}
@@ -117,12 +118,20 @@ lowered_in fold items = folded_where fold (width_in items) (named_all (without_s
 abbrev pub core_in : (wrap fold : Bool) → List Raw → Trees
 core_in wrap fold items = wrapped_where wrap (lowered_in fold items)
 
+-- the paths of its descriptors, which stand in the way of its names
+abbrev pub described_in : List Raw → AbsolutePath → Bool
+described_in items = described_paths (source_in items)
+
+-- its core with its names spelled, shortened or not
+abbrev pub spelled_in : (wrap fold shorten : Bool) → List Raw → Trees
+spelled_in wrap fold shorten items = core_beside shorten (described_in items) (core_in wrap fold items)
+
 -- its table: the header, and the bytes of its core with its names spelled; whether Externals stand in Ifs, whether
 -- constants are folded, whether 0, 1 and all ones have a byte of their own, and whether names are shortened, is the
 -- caller's choice
 abbrev pub table_in : (wrap fold short shorten : Bool) → List Raw → List ℕ
 table_in wrap fold short shorten items =
-    table_bytes (fields_in items) (encoded_all (width_in items) short (core_of shorten (core_in wrap fold items)))
+    table_bytes (fields_in items) (encoded_all (width_in items) short (spelled_in wrap fold shorten items))
 
 -- nothing is wrong with its form, its names, those of its resource descriptors among these, how many arguments its
 -- calls have, its statements, the lists of its fields and their accesses, the kinds of its arguments, the lengths of

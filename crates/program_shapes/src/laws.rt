@@ -12,9 +12,8 @@ ghost use Rattle.asl_meaning.specs.SourceSession.{source_session};
 ghost use Rattle.asl_parser.specs.declared.raw.Raw.{Raw};
 ghost use Rattle.asl_parser.specs.Written.{writtens};
 ghost use Rattle.acpi_names.specs.Shortest.{name_length};
-ghost use Rattle.named_sessions.specs.Core.{core_of};
 ghost use Rattle.program_shapes.specs.Kept.{IsKeptSource};
-ghost use Rattle.program_shapes.specs.Sources.{width_in, terms_in, core_in, IsRight};
+ghost use Rattle.program_shapes.specs.Sources.{width_in, terms_in, spelled_in, IsRight};
 
 /// The length by which the shortest name is chosen is the number of its bytes.
 pub fn name_lengths()
@@ -30,7 +29,7 @@ pub fn cores_do_the_same()
     ensures { (wrap fold shorten : Bool) (items : List Raw) → IsRight items → IsKeptSource (writtens items)
         → (present : List AbsolutePath) (n : ℕ) (answers : List Value) (requests : List Request)
         → IsAsked (width_in items) n answers requests
-        → source_session (width_in items) (known_of (terms_in items)) (core_of shorten (core_in wrap fold items))
+        → source_session (width_in items) (known_of (terms_in items)) (spelled_in wrap fold shorten items)
         (present_ones (externals (terms_in items)) present) n answers requests
         ≡ source_session (width_in items) (known_of (terms_in items)) (terms_in items)
         (present_ones (externals (terms_in items)) present) n answers requests }

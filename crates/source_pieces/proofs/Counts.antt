@@ -13,7 +13,7 @@ use Rattle.asl_tree.specs.View.{form, counted}
 use Rattle.asl_tree.specs.Names.{declared_path, is_known}
 use Rattle.asl_meaning.specs.Declarations.{ExternalType, known_of}
 use Rattle.acpi_names.specs.Spelled.{inner_scope, spelled, spelled_all}
-use Rattle.named_sessions.specs.Core.{says_of, core_of}
+use Rattle.named_sessions.specs.Core.{says_of, core_beside}
 use Rattle.asl_fold.specs.declared.fate.Fate.{Fate}
 use Rattle.asl_fold.specs.Folds.{fate_of, replaced, reduced, sized, folded, folded_args, folded_all, folded_where}
 use Rattle.asl_lower.specs.Nodes.{before, named, named_all}
@@ -74,9 +74,9 @@ module _ (width : Width) (short : Bool) where
 
 -- ---- names are spelled
 
-module _ (shorten : Bool) (has : AbsolutePath → Bool) (says : AbsolutePath → ExternalType → ExternalType) where
+module _ (shorten : Bool) (also has : AbsolutePath → Bool) (says : AbsolutePath → ExternalType → ExternalType) where
   mutual
-    spelled_count : (t : Tree) (scope : AbsolutePath) → cuts (spelled shorten has says t scope) ≡ cuts t
+    spelled_count : (t : Tree) (scope : AbsolutePath) → cuts (spelled shorten also has says t scope) ≡ cuts t
     spelled_count (Method at name flags body) scope = ap suc (spelled_counts body (declared_path name scope))
     spelled_count (Container' kind at name body) scope = ap suc (spelled_counts body (declared_path name scope))
     spelled_count (Scope here at name body) scope = ap suc (spelled_counts body (inner_scope has name scope))
@@ -85,9 +85,9 @@ module _ (shorten : Bool) (has : AbsolutePath → Bool) (says : AbsolutePath →
     spelled_count (While test body) scope = ap suc (spelled_counts body scope)
     spelled_count t scope = refl
 
-    pub spelled_counts : (ts : Trees) (scope : AbsolutePath) → all_cuts (spelled_all shorten has says ts scope) ≡ all_cuts ts
+    pub spelled_counts : (ts : Trees) (scope : AbsolutePath) → all_cuts (spelled_all shorten also has says ts scope) ≡ all_cuts ts
     spelled_counts no_trees scope = refl
-    spelled_counts (tree t ts) scope = ap (λ n. n + all_cuts (spelled_all shorten has says ts scope)) (spelled_count t scope) ∙ ap (λ n. cuts t + n) (spelled_counts ts scope)
+    spelled_counts (tree t ts) scope = ap (λ n. n + all_cuts (spelled_all shorten also has says ts scope)) (spelled_count t scope) ∙ ap (λ n. cuts t + n) (spelled_counts ts scope)
 
 -- ---- constants are folded
 
@@ -479,18 +479,18 @@ wrapped_counts true ts places e =
     list_counts ts (behind_count ts) ∙ ap (λ n. n + marked (starts false ts)) e ∙ sym (more_places (starts false ts) places (starts_length false ts ∙ e))
 
 -- as many terms in the term lists of a formed program's core as its plans have places
-pub core_count : (shorten wrap fold : Bool) (width : Width) (ps : Plans) → AreFormed (Unit {0}) AreNamed (Unit {0}) (Unit {0}) (numbered_all 0 ps) → AreNear (numbered_all 0 ps)
-    → all_cuts (core_of shorten (wrapped_where wrap (folded_where fold width (named_all (without_switches (formed_all (numbered_all 0 ps)))))))
+pub core_count : (shorten : Bool) (also : AbsolutePath → Bool) (wrap fold : Bool) (width : Width) (ps : Plans) → AreFormed (Unit {0}) AreNamed (Unit {0}) (Unit {0}) (numbered_all 0 ps) → AreNear (numbered_all 0 ps)
+    → all_cuts (core_beside shorten also (wrapped_where wrap (folded_where fold width (named_all (without_switches (formed_all (numbered_all 0 ps)))))))
     ≡ length (placed_where wrap (folded_where fold width (named_all (without_switches (formed_all (numbered_all 0 ps))))) (core_places ps))
 unfolding core_places
-core_count shorten wrap fold width ps h near =
+core_count shorten also wrap fold width ps h near =
     let terms = formed_all (numbered_all 0 ps) in
     let loops = without_switches terms in
     let lowered = folded_where fold width (named_all loops) in
     let program = wrapped_where wrap lowered in
     let stands : StandAll (formed_plans ps) terms = formed_stand ps (numbered_all 0 ps) (numbered_stand 0 ps) in
     let formed : FormedTerms terms = forms_formed AreNamed (Unit {0}) (Unit {0}) (numbered_all 0 ps) h near in
-    spelled_counts shorten (is_known (known_of program)) (says_of program) program []
+    spelled_counts shorten also (is_known (known_of program)) (says_of program) program []
     ∙ wrapped_counts wrap lowered (core_places_in false [] ps)
     (where_counts fold width (named_all loops) ∙ named_counts loops ∙ stand_count (formed_plans ps) terms stands formed (plan_of terms) 0 false
     ∙ ap length (core_formed ps (numbered_all 0 ps) (numbered_stand 0 ps) h near))

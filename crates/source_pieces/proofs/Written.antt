@@ -9,13 +9,12 @@ use Rattle.asl_tree.specs.View.{trees_of}
 use Rattle.term_places.specs.Places.{places_of}
 use Rattle.aml_code.specs.Header.{fields_of}
 use Rattle.aml_sessions.specs.Ready.{AreReady}
-use Rattle.named_sessions.specs.Core.{core_of}
 use Rattle.asl_parser.specs.declared.raw.Raw.{Raw}
 use Rattle.asl_parser.specs.Written.{writtens}
 use Rattle.asl_shape.specs.Plans.{plans_of}
 use Rattle.asl_shape.specs.Forms.{block_place}
 use Rattle.wrapped_externals.specs.Starts.{placed_where}
-use Rattle.program_shapes.specs.Sources.{plans_in, fields_in, lowered_in, core_in}
+use Rattle.program_shapes.specs.Sources.{plans_in, fields_in, lowered_in, spelled_in}
 use Rattle.aml_sizes.specs.Pieces.{CutBytes}
 use Rattle.aml_writer.specs.Cuts.{table_parts, ArePieces, IsCut}
 use Rattle.source_pieces.specs.Places.{core_places}
@@ -29,7 +28,7 @@ same_pieces lines places places' parts parts' pieces e f h = subst (λ ps. ArePi
 -- header, and its terms are ready
 pub pieces_of_source : (known : Known) (wrap fold short shorten : Bool) (lines : List Line) (items : List Raw) (block core : Block) (pieces : List Piece) → IsCut lines core short pieces → AreReady known (trees_of core.terms.items) []
     → block.place ≡ block_place (writtens items) → core.place ≡ block.place → fields_of core ≡ fields_in items → plans_of block.terms.items ≡ plans_in items → places_of core.terms.items ≡ placed_where wrap (lowered_in fold items) (core_places (plans_of block.terms.items))
-    → trees_of core.terms.items ≡ core_of shorten (core_in wrap fold items) → ArePieces lines (places_in wrap fold items) (parts_in wrap fold short shorten items) pieces
+    → trees_of core.terms.items ≡ spelled_in wrap fold shorten items → ArePieces lines (places_in wrap fold items) (parts_in wrap fold short shorten items) pieces
 pieces_of_source known wrap fold short shorten lines items block core pieces cut ready at place fields plans places terms =
     same_pieces lines (core.place ∷ places_of core.terms.items) (places_in wrap fold items) (table_parts (fields_of core) short (trees_of core.terms.items)) (parts_in wrap fold short shorten items) pieces
     (ap (λ at. at ∷ places_of core.terms.items) (place ∙ at) ∙ ap (λ ps. block_place (writtens items) ∷ ps) (places ∙ ap (λ ps. placed_where wrap (lowered_in fold items) (core_places ps)) plans))

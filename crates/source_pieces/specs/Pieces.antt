@@ -4,12 +4,11 @@ use Rattle.std.specs.Prelude.{◌≡◌, Bool, List, ◌∷◌}
 use Rattle.iasl_messages.specs.declared.place.Place.{Place}
 use Rattle.iasl_messages.specs.declared.place.Line.{Line}
 use Rattle.iasl_messages.specs.declared.place.Piece.{Piece}
-use Rattle.named_sessions.specs.Core.{core_of}
 use Rattle.asl_parser.specs.declared.raw.Raw.{Raw}
 use Rattle.asl_parser.specs.Written.{writtens}
 use Rattle.asl_shape.specs.Forms.{block_place}
 use Rattle.wrapped_externals.specs.Starts.{placed_where}
-use Rattle.program_shapes.specs.Sources.{plans_in, fields_in, lowered_in, core_in, table_in}
+use Rattle.program_shapes.specs.Sources.{plans_in, fields_in, lowered_in, spelled_in, table_in}
 use Rattle.aml_sizes.specs.Pieces.{CutBytes, joined_pieces}
 use Rattle.aml_writer.specs.Cuts.{table_parts, pieces_with}
 use Rattle.source_pieces.specs.Places.{core_places}
@@ -21,7 +20,7 @@ places_in wrap fold items = block_place (writtens items) ∷ placed_where wrap (
 -- their parts; whether Externals stand in Ifs, whether constants are folded, whether 0, 1 and all ones have a byte of
 -- their own, and whether names are shortened, is the caller's choice
 abbrev pub parts_in : (wrap fold short shorten : Bool) → List Raw → List CutBytes
-parts_in wrap fold short shorten items = table_parts (fields_in items) short (core_of shorten (core_in wrap fold items))
+parts_in wrap fold short shorten items = table_parts (fields_in items) short (spelled_in wrap fold shorten items)
 
 -- the pieces of a source's table, with the texts of these lines
 abbrev pub pieces_in : List Line → (wrap fold short shorten : Bool) → List Raw → List Piece

@@ -76,7 +76,7 @@ fn spelled(
     calls.push(count)?;
     let mut out = Vec::new(alloc);
     if index.named.len() == index.paths.len() && calls.len() <= index.paths.len() {
-        let spelled = spell(alloc, index, &calls, shorten, terms)?;
+        let spelled = spell(alloc, index, &calls, &[], shorten, terms)?;
         write_terms(&mut out, &spelled)?;
     }
     Ok(out)
@@ -182,6 +182,84 @@ fn names_are_shortened(rt: HostRuntime) -> Result<(), Fail> {
     let seen = spelled(alloc, true, terms, *b"X___", None)?;
     let wanted = b"X___ 5 D___ Y___ 1 B___ X___ M___ Y___ 2 Z___ ^Y___ ";
     assert_eq!(rt; seen.as_slice(), wanted.as_slice());
+    Ok(())
+}
+
+// The flags of the path of a name alone, which is named no longer.
+fn taken(alloc: Global, index: &mut Index, path: &Path) -> Result<Vec<bool>, AllocError> {
+    let mut flags = Vec::new(alloc);
+    if index.named.len() != index.paths.len() || index.paths.len() == 0 {
+        return Ok(flags);
+    }
+    let taken = denoted_by(index, path, 0).unwrap_or(0);
+    for number in 0..index.paths.len() {
+        flags.push(number == taken)?;
+    }
+    if taken < index.named.len() {
+        index.named[taken] = false;
+    }
+    Ok(flags)
+}
+
+// Name (X, 5), Device (D) { Name (X, 0) Name (B, X) Name (C, \X) } as they are spelled, where \D.X is no object, and a search meets it
+// or not.
+fn spelled_beside(alloc: Global, shorten: bool, is_met: bool) -> Result<Vec<u8>, AllocError> {
+    let mut body = Vec::new(alloc);
+    add(&mut body, named_other(alloc, *b"X___", Term::Integer(0))?)?;
+    add(
+        &mut body,
+        named_other(alloc, *b"B___", name(alloc, *b"X___")?)?,
+    )?;
+    add(
+        &mut body,
+        named_other(alloc, *b"C___", rooted(alloc, &[*b"X___"])?)?,
+    )?;
+    let mut terms = Vec::new(alloc);
+    add(&mut terms, named_other(alloc, *b"X___", Term::Integer(5))?)?;
+    add(
+        &mut terms,
+        named_form(alloc, Declaration::Device, *b"D___", Vec::new(alloc), body)?,
+    )?;
+    let BlockNames {
+        mut index,
+        mentions,
+    } = names_of(alloc, &terms)?;
+    drop(mentions);
+    let mut out = Vec::new(alloc);
+    if let Term::Name(path) = rooted(alloc, &[*b"D___", *b"X___"])? {
+        let flags = taken(alloc, &mut index, &path)?;
+        let also: &[bool] = if is_met { flags.as_slice() } else { &[] };
+        if index.named.len() == index.paths.len() && also.len() <= index.paths.len() {
+            let spelled = spell(alloc, index, &[], also, shorten, terms)?;
+            write_terms(&mut out, &spelled)?;
+        }
+    }
+    Ok(out)
+}
+
+#[test]
+fn what_is_met_stands_in_the_way(rt: HostRuntime) -> Result<(), Fail> {
+    let alloc = rt.alloc();
+    let seen = spelled_beside(alloc, true, true)?;
+    assert_eq!(rt;
+        seen.as_slice(),
+        b"X___ 5 D___ X___ 0 B___ \\X___ C___ \\X___ ".as_slice()
+    );
+    let seen = spelled_beside(alloc, true, false)?;
+    assert_eq!(rt;
+        seen.as_slice(),
+        b"X___ 5 D___ X___ 0 B___ X___ C___ X___ ".as_slice()
+    );
+    let seen = spelled_beside(alloc, false, true)?;
+    assert_eq!(rt;
+        seen.as_slice(),
+        b"X___ 5 D___ X___ 0 B___ \\X___ C___ \\X___ ".as_slice()
+    );
+    let seen = spelled_beside(alloc, false, false)?;
+    assert_eq!(rt;
+        seen.as_slice(),
+        b"X___ 5 D___ X___ 0 B___ X___ C___ \\X___ ".as_slice()
+    );
     Ok(())
 }
 

@@ -12,52 +12,30 @@ use Rattle.asl_tables.proofs.compile.compile_noted.Goals as goal
 
 pub find-requires : goal.find-requires
 find-requires g c = (
-  subst (λ ns. IsNamed c.args.checked.names g.told (trees_of ns)) (sym c.as_slice-terms.ensures.value) c.requires.1.1.0,
+  subst (λ ns. IsNamed c.args.checked.names g.told.0 g.told.1 (trees_of ns)) (sym c.as_slice-terms.ensures.value) c.requires.1.1.0,
   subst (λ ns. IsPresenceOf (plans_of ns) c.args.checked.present) (sym c.as_slice-terms.ensures.value) c.requires.1.1.1.0,
 )
 
-pub table_of-requires-clause-shaped : goal.table_of-requires-clause-shaped
-table_of-requires-clause-shaped g c =
+pub table_of-requires : goal.table_of-requires
+table_of-requires g c =
     let block = c.args.checked.block in
-    let wrong = with_others g.told c.args.checked.errors in
-    let few = unlowered block.place (trees_of block.terms.items) (plans_of block.terms.items) in
-    let found = found_of c.in_ok-names.field-0 wrong block.place c.as_slice-terms.result.now block.terms.items c.as_slice-terms.ensures.value c.in_ok-names.ensures in
+    let terms = trees_of block.terms.items in
+    let wrong = with_others g.told.0 c.args.checked.errors in
+    let few = unlowered block.place terms (plans_of block.terms.items) in
+    let found = found_of c.in_ok-names.field-0 wrong g.told.1 block.place c.as_slice-terms.result.now block.terms.items c.as_slice-terms.ensures.value c.in_ok-names.ensures in
     let right = (rw c.in-Right.is at found) in
-    c.requires.1.1.1.1.1 (none_else g.told c.args.checked.errors few right.1)
-
-pub table_of-requires-clause-near : goal.table_of-requires-clause-near
-table_of-requires-clause-near g c =
-    let block = c.args.checked.block in
-    let wrong = with_others g.told c.args.checked.errors in
-    let few = unlowered block.place (trees_of block.terms.items) (plans_of block.terms.items) in
-    let found = found_of c.in_ok-names.field-0 wrong block.place c.as_slice-terms.result.now block.terms.items c.as_slice-terms.ensures.value c.in_ok-names.ensures in
-    let right = (rw c.in-Right.is at found) in
-    c.requires.1.1.1.1.0 (none_else g.told c.args.checked.errors few right.1)
-
-pub table_of-requires-clause-numbers : goal.table_of-requires-clause-numbers
-table_of-requires-clause-numbers g c =
-    let block = c.args.checked.block in
-    let wrong = with_others g.told c.args.checked.errors in
-    let found = found_of c.in_ok-names.field-0 wrong block.place c.as_slice-terms.result.now block.terms.items c.as_slice-terms.ensures.value c.in_ok-names.ensures in
-    let right = (rw c.in-Right.is at found) in
-    right_numbers wrong block.place (trees_of block.terms.items) (plans_of block.terms.items) right.1
-
-pub table_of-requires-clause-names : goal.table_of-requires-clause-names
-table_of-requires-clause-names g c =
-    let block = c.args.checked.block in
-    let wrong = with_others g.told c.args.checked.errors in
-    let found = found_of c.in_ok-names.field-0 wrong block.place c.as_slice-terms.result.now block.terms.items c.as_slice-terms.ensures.value c.in_ok-names.ensures in
-    let right = (rw c.in-Right.is at found) in
-    right.0
+    let none = none_else g.told.0 c.args.checked.errors few right.1 in
+    let rest = c.requires.1.1.1 in
+    (c.requires.0, (c.requires.1.0, (rest.1.0 none, (right_numbers wrong block.place terms (plans_of block.terms.items) right.1, (rest.0, (rest.1.1 none, right.0))))))
 
 pub returns-in_ok-outcome-in-Right-clause-outcome : goal.returns-in_ok-outcome-in-Right-clause-outcome
 returns-in_ok-outcome-in-Right-clause-outcome g c =
     let block = c.args.checked.block in
     let terms = trees_of block.terms.items in
-    let wrong = with_others g.told c.args.checked.errors in
+    let wrong = with_others g.told.0 c.args.checked.errors in
     let few = unlowered block.place terms (plans_of block.terms.items) in
-    let table = of_right c.args.style c.args.lines.now block.place (core_places (plans_of block.terms.items)) block.file (fields_of block) terms in
-    let found = found_of c.in_ok-names.field-0 wrong block.place c.as_slice-terms.result.now block.terms.items c.as_slice-terms.ensures.value c.in_ok-names.ensures in
+    let table = of_right c.args.style c.args.lines.now block.place (core_places (plans_of block.terms.items)) block.file (fields_of block) g.told.1 terms in
+    let found = found_of c.in_ok-names.field-0 wrong g.told.1 block.place c.as_slice-terms.result.now block.terms.items c.as_slice-terms.ensures.value c.in_ok-names.ensures in
     let right = (rw c.in-Right.is at found) in
     right_all (Ok c.in_ok-outcome-in-Right.outcome) wrong few table right.1 c.in_ok-outcome-in-Right.ensures
 
@@ -65,9 +43,9 @@ pub returns-in-Wrong-clause-outcome : goal.returns-in-Wrong-clause-outcome
 returns-in-Wrong-clause-outcome g c =
     let block = c.args.checked.block in
     let terms = trees_of block.terms.items in
-    let wrong = with_others g.told c.args.checked.errors in
+    let wrong = with_others g.told.0 c.args.checked.errors in
     let few = unlowered block.place terms (plans_of block.terms.items) in
-    let table = of_right c.args.style c.args.lines.now block.place (core_places (plans_of block.terms.items)) block.file (fields_of block) terms in
-    let found = found_of c.in_ok-names.field-0 wrong block.place c.as_slice-terms.result.now block.terms.items c.as_slice-terms.ensures.value c.in_ok-names.ensures in
+    let table = of_right c.args.style c.args.lines.now block.place (core_places (plans_of block.terms.items)) block.file (fields_of block) g.told.1 terms in
+    let found = found_of c.in_ok-names.field-0 wrong g.told.1 block.place c.as_slice-terms.result.now block.terms.items c.as_slice-terms.ensures.value c.in_ok-names.ensures in
     let told = (rw c.in-Wrong.is at found) in
     wrong_all c.in-Wrong.errors wrong few table told.0 told.1

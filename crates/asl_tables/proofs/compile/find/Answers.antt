@@ -5,24 +5,24 @@ use Rattle.asl_tables.specs.Compiled.{unlowered}
 use Rattle.asl_tables.proofs.Findings.{found_wrong, found_right}
 use Rattle.asl_tables.proofs.compile.find.Goals as goal
 
-pub right_or_few-requires-clause-names : goal.right_or_few-requires-clause-names
-right_or_few-requires-clause-names g c =
-    let first = c.in_ok-names.ensures g.told (trees_of c.args.terms.now) c.requires.0 in
+pub right_or_few-requires : goal.right_or_few-requires
+right_or_few-requires g c =
+    let first = c.in_ok-names.ensures g.told.0 g.told.1 (trees_of c.args.terms.now) c.requires.0 in
     let right = (rw c.in-Right.is at first) in
-    right.0
+    (right.0, c.requires.1)
 
 pub returns-in-Right : goal.returns-in-Right
 returns-in-Right g c =
     let terms = trees_of c.args.terms.now in
     let few = unlowered c.args.block terms (plans_of c.args.terms.now) in
-    let first = c.in_ok-names.ensures g.told terms c.requires.0 in
+    let first = c.in_ok-names.ensures g.told.0 g.told.1 terms c.requires.0 in
     let right = (rw c.in-Right.is at first) in
-    found_right c.right_or_few.result (with_others g.told c.args.errors) few terms right.1 c.right_or_few.ensures
+    found_right c.right_or_few.result (with_others g.told.0 c.args.errors) few g.told.1 terms right.1 c.right_or_few.ensures
 
 pub returns-in-Wrong : goal.returns-in-Wrong
 returns-in-Wrong g c =
     let terms = trees_of c.args.terms.now in
     let few = unlowered c.args.block terms (plans_of c.args.terms.now) in
-    let first = c.in_ok-names.ensures g.told terms c.requires.0 in
+    let first = c.in_ok-names.ensures g.told.0 g.told.1 terms c.requires.0 in
     let wrong = (rw c.in-Wrong.is at first) in
-    found_wrong c.in-Wrong.errors (with_others g.told c.args.errors) few wrong
+    found_wrong c.in-Wrong.errors (with_others g.told.0 c.args.errors) few wrong

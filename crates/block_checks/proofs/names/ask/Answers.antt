@@ -1,4 +1,4 @@
-use Rattle.std.proofs.Common.{◌∙◌, ap, subst}
+use Rattle.std.proofs.Common.{false, ◌∙◌, ap, subst}
 use Rattle.asl_tree.specs.View.{trees_of}
 use Rattle.asl_shape.specs.Plans.{plans_of}
 use Rattle.acpi_names.specs.Terms.{are_terms}
@@ -19,7 +19,7 @@ pub right_or_wrong-requires-clause-terms : goal.right_or_wrong-requires-clause-t
 right_or_wrong-requires-clause-terms c = ap (λ ns. are_terms (trees_of ns)) c.in_ok-known.ensures.terms ∙ c.requires
 
 pub returns-clause-names : goal.returns-clause-names
-returns-clause-names c = subst (λ ns. IsNamed c.in_ok-names.names (told_errors (trees_of ns)) (trees_of ns)) c.in_ok-known.ensures.terms c.in_ok-names.ensures
+returns-clause-names c = subst (λ ns. IsNamed c.in_ok-names.names (told_errors (trees_of ns)) (λ path. false) (trees_of ns)) c.in_ok-known.ensures.terms c.in_ok-names.ensures
 
 pub returns-clause-regions : goal.returns-clause-regions
 returns-clause-regions c = c.in_ok-regions.ensures.told ∙ ap (λ ns. region_errors c.args.width (trees_of ns) (plans_of ns)) c.in_ok-known.ensures.terms

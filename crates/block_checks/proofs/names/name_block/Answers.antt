@@ -6,7 +6,7 @@ use Rattle.asl_numbers.specs.Numbers.{numbered_all}
 use Rattle.named_sessions.specs.Shaped.{AreFormed, AreNamed}
 use Rattle.region_checks.specs.Regions.{region_errors}
 use Rattle.type_checks.specs.Types.{wrong_types}
-use Rattle.descriptor_checks.specs.Resolved.{checked_terms, resolved_terms}
+use Rattle.descriptor_checks.specs.Resolved.{checked_terms, described_paths, resolved_terms}
 use Rattle.descriptor_checks.specs.Told.{checked_trees}
 use Rattle.block_checks.specs.Told.{noted_of, told_of_names}
 use Rattle.block_checks.specs.Findings.{IsNamed}
@@ -24,7 +24,7 @@ returns-clause-trees c = c.in_ok-terms.ensures.trees ∙ ap (λ (ts : Vec Node G
 
 pub returns-clause-names : goal.returns-clause-names
 returns-clause-names c =
-    subst (λ (ts : Vec Node Global). IsNamed c.in_ok-terms.field-0.told.names (told_of_names (plans_of ts.items)) (numbered_all 0 (resolved_terms (plans_of ts.items)))) c.replace-terms.ensures.value c.in_ok-terms.ensures.names
+    subst (λ (ts : Vec Node Global). IsNamed c.in_ok-terms.field-0.told.names (told_of_names (plans_of ts.items)) (described_paths (plans_of ts.items)) (numbered_all 0 (resolved_terms (plans_of ts.items)))) c.replace-terms.ensures.value c.in_ok-terms.ensures.names
 
 pub returns-clause-regions : goal.returns-clause-regions
 returns-clause-regions c =

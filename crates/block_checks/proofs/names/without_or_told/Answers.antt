@@ -7,10 +7,10 @@ names_without-requires g c =
     let none : length c.args.told ≡ 0 = grind (arith, c.is_empty.ensures, c.if-is_empty.true) in
     (c.requires.0, (c.requires.1.0, (c.requires.1.1.0, (c.requires.1.1.1.0, sym c.requires.1.1.1.1 ∙ nil_from_length c.args.told none))))
 
-pub returns-then-is_empty : goal.returns-then-is_empty
-returns-then-is_empty g c =
+pub returns-in_ok-names : goal.returns-in_ok-names
+returns-in_ok-names g c =
     let none : length c.args.told ≡ 0 = grind (arith, c.is_empty.ensures, c.if-is_empty.true) in
-    (c.names_without.ensures, sym c.requires.1.1.1.1 ∙ nil_from_length c.args.told none)
+    (c.in_ok-names.ensures, sym c.requires.1.1.1.1 ∙ nil_from_length c.args.told none)
 
 pub returns-else-is_empty : goal.returns-else-is_empty
 returns-else-is_empty g c =

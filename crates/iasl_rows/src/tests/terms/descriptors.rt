@@ -5,7 +5,7 @@ use std::alloc::AllocError;
 // A template with a descriptor, on a line of its own.
 const BEFORE: &str = "Name (B, ResourceTemplate () { FixedIO (1, 2, D) })\n";
 
-static MADE: [Row; 6] = [
+static MADE: [Row; 7] = [
     // A template, whose descriptor has a name or none.
     made!(
         "Name (V, ResourceTemplate () { IRQ (Edge, ActiveHigh, Exclusive) {3} })",
@@ -37,10 +37,17 @@ static MADE: [Row; 6] = [
         b"\x08B___\x11\x09\x0A\x06\x4B\x01\x00\x02\x79\x00\x08P___\x12\x04\x01\x0A\x03\x5B\x82\x15V___\x08N___\x01\x14\x09M___\x00\xA4\
             \x0A\x03"
     ),
-    // A name of the same segment that is nearer is another.
+    // A name of the same segment that is nearer is another, and a search for it meets both.
     made!(
         "Name (B, ResourceTemplate () { FixedIO (1, 2, D) }) Device (V) { Name (D, 5) Name (N, D) }",
-        b"\x08B___\x11\x09\x0A\x06\x4B\x01\x00\x02\x79\x00\x5B\x82\x15V___\x08D___\x0A\x05\x08N___D___"
+        b"\x08B___\x11\x09\x0A\x06\x4B\x01\x00\x02\x79\x00\x5B\x82\x1BV___\x08D___\x0A\x05\x08N___\\.V___D___"
+    ),
+    // A descriptor that is nearer stands in the way of a name, where a search meets it.
+    made!(
+        "Scope (_SB) { Name (RNG0, 5) Device (AAAA) { Name (CCCC, ResourceTemplate () { IO (Decode16, 0x10, 0x20, 1, 4, RNG0) }) \
+            Method (NNNN) { Local1 = \\_SB.RNG0 } } Device (BBBB) { Method (NNNN) { Local1 = \\_SB.RNG0 } } }",
+        b"\x10\x4A\x04_SB_\x08RNG0\x0A\x05\x5B\x82\x27AAAA\x08CCCC\x11\x0D\x0A\x0A\x47\x01\x10\x00\x20\x00\x01\x04\x79\x00\
+            \x14\x0ENNNN\x00\x70^^RNG0\x61\x5B\x82\x12BBBB\x14\x0CNNNN\x00\x70RNG0\x61"
     ),
 ];
 

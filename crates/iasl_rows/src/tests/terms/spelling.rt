@@ -48,11 +48,16 @@ static LONG_INTEGERS: [Row; 2] = [
 ];
 
 // Names as they are written.
-static WRITTEN_NAMES: [Row; 2] = [
+static WRITTEN_NAMES: [Row; 3] = [
     row!(FROM_THE_ROOT, b"\x08X___\x01\x14\x0CM___\x00\xA4\\X___"),
     row!(
         HIDDEN,
         b"\x5B\x82\x24D___\x08Y___\x01\x14\x18M___\x00\x08Y___\x0A\x02\xA4\\.D___Y___"
+    ),
+    // A name whose search meets a descriptor further out is written from the root.
+    row!(
+        "Name (C, ResourceTemplate () { FixedIO (1, 2, X) }) Device (D) { Name (X, 1) Name (N, X) }",
+        b"\x08C___\x11\x09\x0A\x06\x4B\x01\x00\x02\x79\x00\x5B\x82\x1AD___\x08X___\x01\x08N___\\.D___X___"
     ),
 ];
 

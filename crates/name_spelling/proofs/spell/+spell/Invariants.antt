@@ -10,21 +10,21 @@ use Rattle.name_spelling.proofs.spell.+spell.Given as goal
 
 abbrev pub invariant-spell_all-loop-node : goal.invariant-spell_all-loop-node
 invariant-spell_all-loop-node l = record {
-  grows : Grows l.initial.index.paths l.initial.index.named.items l.index.paths l.index.named.items l.calls;
-  turns : Turns l.initial.index.paths l.initial.index.named.items l.calls (λ d counts k t. spelled l.shorten (is_named d) (written_external counts) t (get_or l.initial.index.paths l.scope [])) l.initial.node-items l.node-items l.node-index;
+  grows : Grows l.initial.index.paths l.initial.index.named.items l.index.paths l.index.named.items l.calls l.also;
+  turns : Turns l.initial.index.paths l.initial.index.named.items l.calls l.also (λ d counts beside k t. spelled l.shorten beside (is_named d) (written_external counts) t (get_or l.initial.index.paths l.scope [])) l.initial.node-items l.node-items l.node-index;
   places : places_of l.node-items ≡ places_of l.initial.node-items;
 }
 
 abbrev pub invariant-spell_but-loop-number : goal.invariant-spell_but-loop-number
 invariant-spell_but-loop-number l = record {
-  grows : Grows l.initial.index.paths l.initial.index.named.items l.index.paths l.index.named.items l.calls;
-  turns : Turns l.initial.index.paths l.initial.index.named.items l.calls (λ d counts k t. other_spelled l.shorten (is_named d) (written_external counts) (nat_eq k l.place) t (get_or l.initial.index.paths l.scope [])) l.initial.node-items l.node-items l.number;
+  grows : Grows l.initial.index.paths l.initial.index.named.items l.index.paths l.index.named.items l.calls l.also;
+  turns : Turns l.initial.index.paths l.initial.index.named.items l.calls l.also (λ d counts beside k t. other_spelled l.shorten beside (is_named d) (written_external counts) (nat_eq k l.place) t (get_or l.initial.index.paths l.scope [])) l.initial.node-items l.node-items l.number;
 }
 
 abbrev pub invariant-spell_elements-loop-node : goal.invariant-spell_elements-loop-node
 invariant-spell_elements-loop-node l = record {
-  grows : Grows l.initial.index.paths l.initial.index.named.items l.index.paths l.index.named.items l.calls;
-  turns : Turns l.initial.index.paths l.initial.index.named.items l.calls (λ d counts k t. element_spelled l.shorten (is_named d) t (spelled l.shorten (is_named d) (written_external counts) t (get_or l.initial.index.paths l.scope [])) (get_or l.initial.index.paths l.scope [])) l.initial.node-items l.node-items l.node-index;
+  grows : Grows l.initial.index.paths l.initial.index.named.items l.index.paths l.index.named.items l.calls l.also;
+  turns : Turns l.initial.index.paths l.initial.index.named.items l.calls l.also (λ d counts beside k t. element_spelled l.shorten (is_named d) t (spelled l.shorten beside (is_named d) (written_external counts) t (get_or l.initial.index.paths l.scope [])) (get_or l.initial.index.paths l.scope [])) l.initial.node-items l.node-items l.node-index;
   places : places_of l.node-items ≡ places_of l.initial.node-items;
 }
 
