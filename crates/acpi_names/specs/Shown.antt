@@ -54,7 +54,7 @@ module _ (paths : List AbsolutePath) where
   shown (Mention.Used asked at name scope) = M.Used' (asked_as asked) (spot_as at) name.now (get_or paths scope [])
   shown (Mention.Sought at name scope) = M.Sought (spot_as at) name.now (get_or paths scope [])
   shown (Mention.Called asked at name args scope) = M.Called asked (spot_as at) name.now args (get_or paths scope [])
-  shown (Mention.Declares at name what scope) = M.Declares (spot_as at) (written_as name) (declared_as what) (get_or paths scope [])
+  shown (Mention.Declares at name what scope path) = M.Declares (spot_as at) (written_as name) (declared_as what) (get_or paths scope [])
   shown (Mention.Outside here at name object parameters scope) =
       M.Outside (spot_as here) (spot_as at) name.now (record { type = object; parameters = parameters }) (get_or paths scope [])
   shown (Mention.Opens here at name scope inner) = M.Opens (spot_as here) (spot_as at) name.now (get_or paths scope [])

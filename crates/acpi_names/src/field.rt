@@ -59,7 +59,7 @@ fn segment_in(term: &Term) -> Option<NameSeg>
 }
 
 // A unit's name, which is named from now on.
-fn declared_unit(index: &mut Index, segment: NameSeg, scope: usize) -> Result<(), AllocError>
+fn declared_unit(index: &mut Index, segment: NameSeg, scope: usize) -> Result<usize, AllocError>
     requires scope_in { scope < length index.old.paths }
     requires all { length index.old.named.items ≡ length index.old.paths }
     ensures size { OnOk result (length index.new.named.items ≡ length index.new.paths) }
@@ -70,7 +70,7 @@ fn declared_unit(index: &mut Index, segment: NameSeg, scope: usize) -> Result<()
     let number = reach(index, scope, &[segment])?;
     let count = index.paths.len();
     index.named[number] = true;
-    Ok(())
+    Ok(number)
 }
 
 // What units are connected to, where a node is a name.
@@ -112,13 +112,14 @@ fn fold_item<'a>(
 {
     match segment_in(&node.term) {
         Some(segment) => {
+            let path = declared_unit(index, segment, scope)?;
             out.push(Mention::Declares {
                 at: spot_of(node),
                 name: WrittenName::Segment(segment),
                 what: Declared::As(What::Unit),
                 scope,
+                path,
             })?;
-            declared_unit(index, segment, scope)?;
             Ok(())
         }
         None => {

@@ -286,14 +286,15 @@ fn fold_declared<'a>(
     match name_at(args, place) {
         Some(found) => {
             values(out, first_nodes(args, place), scope, true)?;
+            let inner = declared(index, found.name, scope)?;
             out.push(Mention::Declares {
                 at: found.at,
                 name: WrittenName::Path(found.name),
                 what: Declared::As(what),
                 scope,
+                path: inner,
             })?;
             values(out, later_nodes(args, place), scope, true)?;
-            let inner = declared(index, found.name, scope)?;
             if opens {
                 fold(index, out, body, inner)?;
             }
@@ -327,6 +328,7 @@ fn fold_alias<'a>(
                     name: source.name,
                     scope,
                 })?;
+                let path = declared(index, alias.name, scope)?;
                 out.push(Mention::Declares {
                     at: alias.at,
                     name: WrittenName::Path(alias.name),
@@ -335,8 +337,8 @@ fn fold_alias<'a>(
                         scope,
                     },
                     scope,
+                    path,
                 })?;
-                declared(index, alias.name, scope)?;
                 Ok(())
             }
             None => Ok(()),

@@ -74,11 +74,13 @@ pub enum Mention<'a> {
         args: usize,
         scope: usize,
     },
+    /// A declared name, whose path has the number `path`. No clause speaks of that number: who goes by it looks first.
     Declares {
         at: Occurrence,
         name: WrittenName<'a>,
         what: Declared<'a>,
         scope: usize,
+        path: usize,
     },
     /// The name of an External.
     Outside {

@@ -69,6 +69,7 @@ fn asked_use(asked: bool, op: Plain) -> Asked
 
 /// The mentions of an expression.
 #[cycle(walk)]
+#[inline(always)]
 pub(crate) fn value<'a>(
     out: &mut Vec<Mention<'a>>,
     node: &'a Node,

@@ -16,9 +16,10 @@ use Rattle.acpi_names.specs.Paths.{AreDistinct, path_with}
 use Rattle.name_kinds.specs.Ends.{ended}
 use Rattle.name_kinds.specs.declared.kind.End.{End}
 use Rattle.name_checks.specs.Calls.{is_open, is_first}
-use Rattle.name_checks.specs.Faults.{Before, Finds, fault_as}
+use Rattle.name_checks.specs.Faults.{Finds, fault_as}
 use Rattle.name_kinds.specs.Kinds.{kind_as}
 use Rattle.name_checks.specs.declared.fault.Fault.{Fault}
+use Rattle.name_kinds.specs.Tables.{TablesSay}
 use Rattle.name_kinds.specs.declared.tables.Tables.{Tables}
 use Rattle.name_kinds.proofs.Lookups.{kinds_some}
 use Rattle.name_kinds.proofs.Noting.{look_here}
@@ -30,9 +31,9 @@ pub finds_as : (paths : List AbsolutePath) (a b : List Fault) (x y : List NameEr
 finds_as paths a b x y e h = h ∙ ap (λ es. map (fault_as paths) a ++ es) e
 
 -- the entry that is read says whether the path is declared
-pub declared_here : (paths : List AbsolutePath) (has : AbsolutePath → Bool) (tables : Tables) (d : Declarations) (n : ℕ) (x : _) → AreDistinct paths → n < length paths → length tables.kinds.items ≡ length paths → x ≡ get_or tables.kinds.items n x → Before paths has tables d → is_some x ≡ is_some (lookup d.declared (get_or paths n []))
-declared_here paths has tables d n x distinct lt size e before =
-    sym (some_kind x) ∙ ap is_some (look_here (kind_as paths) paths tables.kinds.items n x (lookup (declared_kinds has d.declared)) distinct lt size e before.kinds) ∙ kinds_some has d.declared (get_or paths n [])
+pub declared_here : (paths : List AbsolutePath) (has : AbsolutePath → Bool) (tables : Tables) (calls : List (AbsolutePath × ℕ)) (d : Declarations) (n : ℕ) (x : _) → AreDistinct paths → n < length paths → length tables.kinds.items ≡ length paths → x ≡ get_or tables.kinds.items n x → TablesSay paths has tables calls d → is_some x ≡ is_some (lookup d.declared (get_or paths n []))
+declared_here paths has tables calls d n x distinct lt size e notes =
+    sym (some_kind x) ∙ ap is_some (look_here (kind_as paths) paths tables.kinds.items n x (lookup (declared_kinds has d.declared)) distinct lt size e notes.kinds) ∙ kinds_some has d.declared (get_or paths n [])
   where
     some_kind : (o : _) → is_some (option_map (kind_as paths) o) ≡ is_some o
     some_kind None = refl

@@ -1,3 +1,4 @@
 pub mod Finding
+pub mod Noting
 pub mod Walks
 pub mod Blocks

@@ -1,14 +1,9 @@
 -- Errors in code.
-use Rattle.std.specs.Prelude.{◌≡◌, ◌++◌, Bool, List, [], get_or, map}
+use Rattle.std.specs.Prelude.{◌≡◌, ◌++◌, List, [], get_or, map}
 use Rattle.acpi_values.specs.Paths.{AbsolutePath}
-use Rattle.asl_meaning.specs.Declarations.{Declarations, declared_kinds}
-use Rattle.acpi_state.specs.Objects.{lookup}
 use Rattle.acpi_names.specs.Errors.{NameError, Twice, DeclaredHere, Missing, NoContainer, LeavesRoot, Differs, TooLong, WrongCount}
 use Rattle.acpi_names.specs.Errors.{WrongKind}
 use Rattle.acpi_names.specs.Shown.{spot_as, written_as}
-use Rattle.name_kinds.specs.Kinds.{kind_as, type_as}
-use Rattle.name_kinds.specs.Tables.{TabledBy}
-use Rattle.name_kinds.specs.declared.tables.Tables.{Tables}
 use Rattle.name_checks.specs.declared.fault.Fault.{Fault}
 use Rattle.name_checks.specs.declared.fault.Fault.TheVariants as F
 
@@ -26,8 +21,3 @@ fault_as paths (F.WrongKind at name) = WrongKind (spot_as at) (written_as name)
 -- these errors more
 abbrev pub Finds : List AbsolutePath → List Fault → List Fault → List NameError → Type 0
 Finds paths old new errors = map (fault_as paths) new ≡ map (fault_as paths) old ++ errors
-
--- what is declared, and what of other tables, as tables say it
-pub record Before (paths : List AbsolutePath) (has : AbsolutePath → Bool) (tables : Tables) (d : Declarations) : Type 0 where
-  pub kinds : TabledBy (kind_as paths) paths tables.kinds.items (lookup (declared_kinds has d.declared))
-  pub externals : TabledBy type_as paths tables.externals.items (lookup d.external)

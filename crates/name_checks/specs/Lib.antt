@@ -1,4 +1,5 @@
 pub mod Messages
 pub mod Faults
+pub mod Before
 pub mod Calls
 pub mod Refusals

@@ -5,15 +5,16 @@ ghost use Rattle.asl_tree.specs.View.{trees_of};
 ghost use Rattle.asl_meaning.specs.Declarations.{Declarations, is_named, declarations, nothing_declared};
 ghost use Rattle.acpi_names.specs.Errors.{Whole, whole_of, name_errors, type_errors};
 ghost use Rattle.acpi_names.specs.Mentions.{mention_errors as errors_of, all_errors as all_errors_of, mention_types as types_of};
-ghost use Rattle.acpi_names.specs.Mentions.{all_types as all_types_of, after_all, block_mentions};
+ghost use Rattle.acpi_names.specs.Mentions.{all_types as all_types_of, after, after_all, block_mentions};
 ghost use Rattle.acpi_names.specs.Parts.{Agrees};
 ghost use Rattle.acpi_names.specs.Shown.{shown, all_shown};
 ghost use Rattle.acpi_names.specs.Tables.{Tabled};
 ghost use Rattle.acpi_names.specs.Terms.{are_terms};
-ghost use Rattle.name_checks.specs.Faults.{Before, Finds, fault_as};
+ghost use Rattle.name_checks.specs.Before.{AreSized, Before};
+ghost use Rattle.name_checks.specs.Faults.{Finds, fault_as};
 ghost use Rattle.name_kinds.specs.Facts.{Knows};
 ghost use Rattle.name_checks.specs.Messages.{message_of, told_errors};
-ghost use Rattle.name_kinds.specs.Tables.{AreSized, IsThere};
+ghost use Rattle.name_kinds.specs.Tables.{IsThere};
 ghost use Rattle.name_checks.specs.Refusals.{Refuses};
 ghost use Rattle.name_kinds.specs.Known.{KnowsItsTerms};
 ghost use Rattle.name_kinds.specs.Seen.{seen};
@@ -23,14 +24,15 @@ use crate::rules::{
     asked_types, call_errors, call_types, declared_errors, external_errors, scope_errors,
     step_errors, use_errors,
 };
+use crate::so_far::{SoFar, blank, note_declared, note_outside};
 use acpi_names::index::Index;
 use acpi_names::mention::{Mention, WrittenName};
 use asl_tree::term::Node;
 use iasl_messages::message::{Messages, Stage};
-use name_kinds::facts::{Facts, blank};
+use name_kinds::facts::Facts;
 use name_kinds::kind::External;
 use name_kinds::known::{Known, known_of};
-use name_kinds::tables::{Tables, denoted, note};
+use name_kinds::tables::{declared_at, declared_with, denoted};
 use std::alloc::{AllocError, Global};
 
 /// The names of a block whose names are right.
@@ -41,19 +43,22 @@ pub struct Names {
     pub calls: Vec<Option<usize>>,
 }
 
-// The errors of one mention.
+// The errors of one mention, and what it says of names.
 fn mention_errors<'a>(
     out: &mut Vec<Fault<'a>>,
     facts: &Facts,
-    before: &Tables,
+    so_far: &mut SoFar,
     mention: Mention<'a>,
 ) -> Result<(), AllocError>
     ghost whole: { Whole }
     requires told { Knows facts.now whole }
     requires there { IsThere whole (shown facts.now.index.paths mention) }
-    requires sized { AreSized facts.now.index.paths before.now }
-    ensures { OnOk result ((d : Declarations) → Before facts.now.index.paths (is_named whole.all) before.now d →
+    requires sized { AreSized facts.now.index.paths so_far.old }
+    ensures sized { OnOk result (AreSized facts.now.index.paths so_far.new) }
+    ensures found { OnOk result ((d : Declarations) → Before facts.now.index.paths so_far.old d →
         Finds facts.now.index.paths out.old.items out.new.items (errors_of whole (shown facts.now.index.paths mention.entry) d)) }
+    ensures noted { OnOk result ((d : Declarations) → Before facts.now.index.paths so_far.old d →
+        Before facts.now.index.paths so_far.new (after (shown facts.now.index.paths mention.entry) d)) }
 {
     match mention {
         Mention::Used {
@@ -86,9 +91,12 @@ fn mention_errors<'a>(
             at,
             name,
             scope,
+            path,
             ..
         } => {
-            declared_errors(out, facts, before, at, name, scope)?;
+            let path = declared_with(&facts.index, name, scope, path);
+            declared_errors(out, facts, so_far, at, name, scope, path)?;
+            note_declared(&facts.index.paths, so_far, path);
             Ok(())
         }
         Mention::Outside {
@@ -100,7 +108,9 @@ fn mention_errors<'a>(
             scope,
         } => {
             let external = External { object, parameters };
-            external_errors(out, facts, before, here, at, name, external, scope)?;
+            let path = declared_at(&facts.index, WrittenName::Path(name), scope);
+            external_errors(out, facts, so_far, here, at, name, external, scope, path)?;
+            note_outside(&facts.index.paths, so_far, path, external);
             Ok(())
         }
         Mention::Opens {
@@ -132,10 +142,9 @@ fn all_errors<'a>(
         (Finds facts.now.index.paths out.old.items out.new.items
         (all_errors_of whole (all_shown facts.now.index.paths mentions.now) nothing_declared)) }
 {
-    let mut before = blank(alloc, &facts.index)?;
+    let mut so_far = blank(alloc, &facts.index.paths)?;
     for mention in mentions {
-        mention_errors(out, facts, &before, *mention)?;
-        note(&facts.index, &mut before, mention);
+        mention_errors(out, facts, &mut so_far, *mention)?;
     }
     Ok(())
 }

@@ -12,21 +12,24 @@ ghost use Rattle.acpi_names.specs.Mentions.{opening_errors as opening};
 ghost use Rattle.acpi_names.specs.Paths.{path_with};
 ghost use Rattle.acpi_names.specs.Shown.{spot_as, asked_as, written_as};
 ghost use Rattle.name_checks.specs.Calls.{is_open as open_is, is_first as first_is};
-ghost use Rattle.name_checks.specs.Faults.{Before, Finds, fault_as};
+ghost use Rattle.name_checks.specs.Before.{AreSized, Before};
+ghost use Rattle.name_checks.specs.Faults.{Finds, fault_as};
 ghost use Rattle.name_kinds.specs.Ends.{ended};
 ghost use Rattle.name_kinds.specs.Facts.{Knows};
 ghost use Rattle.name_kinds.specs.Kinds.{object_as, type_as};
-ghost use Rattle.name_kinds.specs.Tables.{AreSized};
 
 use crate::fault::Fault;
+use crate::so_far;
+use crate::so_far::SoFar;
 use acpi_names::lookup::scope_in;
 use acpi_names::mention::{Asked, Occurrence, WrittenName};
+use acpi_names::paths::Paths;
 use asl_tree::path::Path;
 use name_kinds::facts::{Facts, end, is_named_at};
 use name_kinds::kind::{
     End, External, is_container, is_event, is_method, is_mutex, is_region, is_unit, operand_count,
 };
-use name_kinds::tables::{Tables, declared_at, is_in_root};
+use name_kinds::tables::is_in_root;
 use std::alloc::AllocError;
 
 /// The most segments of a path.
@@ -57,32 +60,28 @@ fn has_parent(facts: &Facts, number: usize) -> bool
 }
 
 // Whether a path is declared.
-fn is_declared(facts: &Facts, tables: &Tables, number: usize) -> bool
+fn is_declared(facts: &Facts, number: usize) -> bool
     ghost whole: { Whole }
     requires told { Knows facts.now whole }
     requires within { number < length facts.now.index.paths }
-    requires sized { AreSized facts.now.index.paths tables.now }
-    ensures { (d : Declarations) → Before facts.now.index.paths (is_named whole.all) tables.now d →
-        result ≡ is_some (lookup d.declared (get_or facts.now.index.paths number [])) }
+    ensures { result ≡ is_some (lookup whole.all.declared (get_or facts.now.index.paths number [])) }
 {
     let count = facts.index.paths.len();
-    match tables.kinds[number] {
+    match facts.tables.kinds[number] {
         Some(_) => true,
         None => false,
     }
 }
 
 // The first External of a path.
-fn first_external(facts: &Facts, tables: &Tables, number: usize) -> Option<External>
+fn first_external(facts: &Facts, number: usize) -> Option<External>
     ghost whole: { Whole }
     requires told { Knows facts.now whole }
     requires within { number < length facts.now.index.paths }
-    requires sized { AreSized facts.now.index.paths tables.now }
-    ensures { (d : Declarations) → Before facts.now.index.paths (is_named whole.all) tables.now d →
-        option_map type_as result ≡ lookup d.external (get_or facts.now.index.paths number []) }
+    ensures { option_map type_as result ≡ lookup whole.all.external (get_or facts.now.index.paths number []) }
 {
     let count = facts.index.paths.len();
-    tables.externals[number]
+    facts.tables.externals[number]
 }
 
 // The number of arguments of the first call of a path.
@@ -116,15 +115,12 @@ fn is_found(target: Option<usize>) -> bool
 }
 
 // Whether a path is declared by no term before, and not of the root.
-fn is_new(facts: &Facts, before: &Tables, number: usize) -> bool
-    ghost whole: { Whole }
-    requires told { Knows facts.now whole }
-    requires within { number < length facts.now.index.paths }
-    requires sized { AreSized facts.now.index.paths before.now }
-    ensures { (d : Declarations) → Before facts.now.index.paths (is_named whole.all) before.now d →
-        result ≡ spec.is_new d (get_or facts.now.index.paths number []) }
+fn is_new(paths: &Paths, before: &SoFar, number: usize) -> bool
+    requires within { number < length paths.now }
+    requires sized { AreSized paths.now before.now }
+    ensures { (d : Declarations) → Before paths.now before.now d → result ≡ spec.is_new d (get_or paths.now number []) }
 {
-    !(is_in_root(&facts.index.paths, number) || is_declared(facts, before, number))
+    !(is_in_root(paths, number) || so_far::is_declared(paths, before, number))
 }
 
 fn same_count(first: Option<u64>, second: Option<u64>) -> bool
@@ -207,57 +203,60 @@ fn length_errors<'a>(
     Ok(())
 }
 
-/// The errors of a name that is declared.
+/// The errors of a name that is declared, whose path has the number `path`.
 pub fn declared_errors<'a>(
     out: &mut Vec<Fault<'a>>,
     facts: &Facts,
-    before: &Tables,
+    before: &SoFar,
     at: Occurrence,
     name: WrittenName<'a>,
     scope: usize,
+    path: usize,
 ) -> Result<(), AllocError>
     ghost whole: { Whole }
     requires told { Knows facts.now whole }
-    requires there { is_named whole.all (declared_path (written_as name) (get_or facts.now.index.paths scope [])) ≡ true }
+    requires within { path < length facts.now.index.paths }
+    requires path { get_or facts.now.index.paths path [] ≡ declared_path (written_as name) (get_or facts.now.index.paths scope []) }
     requires sized { AreSized facts.now.index.paths before.now }
-    ensures { OnOk result ((d : Declarations) → Before facts.now.index.paths (is_named whole.all) before.now d →
+    ensures { OnOk result ((d : Declarations) → Before facts.now.index.paths before.now d →
         Finds facts.now.index.paths out.old.items out.new.items
         (spec.declared_errors whole (spot_as at) (written_as name.entry) (get_or facts.now.index.paths scope []) d)) }
 {
-    let path = declared_at(&facts.index, name, scope);
-    unless(out, is_new(facts, before, path), Fault::Twice { at, path })?;
+    let new = is_new(&facts.index.paths, before, path);
+    unless(out, new, Fault::Twice { at, path })?;
     step_errors(out, facts, at, name, scope)?;
     unless(out, has_parent(facts, path), Fault::Missing { at, name })?;
     length_errors(out, facts, at, name, path)?;
     Ok(())
 }
 
-/// The errors of the name of an External.
+/// The errors of the name of an External, whose path has the number `path`.
 pub fn external_errors<'a>(
     out: &mut Vec<Fault<'a>>,
     facts: &Facts,
-    before: &Tables,
+    before: &SoFar,
     here: Occurrence,
     at: Occurrence,
     name: &'a Path,
     external: External,
     scope: usize,
+    path: usize,
 ) -> Result<(), AllocError>
     ghost whole: { Whole }
     requires told { Knows facts.now whole }
-    requires there { is_named whole.all (declared_path name.now (get_or facts.now.index.paths scope [])) ≡ true }
+    requires within { path < length facts.now.index.paths }
+    requires path { get_or facts.now.index.paths path [] ≡ declared_path name.now (get_or facts.now.index.paths scope []) }
     requires sized { AreSized facts.now.index.paths before.now }
-    ensures { OnOk result ((d : Declarations) → Before facts.now.index.paths (is_named whole.all) before.now d →
+    ensures { OnOk result ((d : Declarations) → Before facts.now.index.paths before.now d →
         Finds facts.now.index.paths out.old.items out.new.items
         (spec.external_errors whole (spot_as here) (spot_as at) name.now (type_as external) (get_or facts.now.index.paths scope []) d)) }
 {
     let written = WrittenName::Path(name);
-    let path = declared_at(&facts.index, written, scope);
-    let declared = is_declared(facts, &facts.tables, path);
+    let declared = is_declared(facts, path);
     unless(out, !declared, Fault::DeclaredHere { at, path })?;
     step_errors(out, facts, at, written, scope)?;
     length_errors(out, facts, at, written, path)?;
-    let first = first_external(facts, before, path);
+    let first = so_far::first_external(&facts.index.paths, before, path);
     unless(
         out,
         agrees_with(first, external),
@@ -344,7 +343,7 @@ pub fn call_errors<'a>(
     match target {
         None => Ok(()),
         Some(number) => {
-            let external = first_external(facts, &facts.tables, number);
+            let external = first_external(facts, number);
             let first = first_call(facts, number);
             unless(
                 out,

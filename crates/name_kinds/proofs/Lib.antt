@@ -1,6 +1,7 @@
 pub mod Entries
 pub mod Lookups
 pub mod Places
+pub mod Written
 pub mod Noting
 pub mod Chains
 pub mod Following

@@ -10,9 +10,8 @@ use Rattle.acpi_names.specs.Parts.{Agrees}
 use Rattle.acpi_names.specs.Paths.{number_in, is_flagged, AreDistinct}
 use Rattle.acpi_names.specs.Tables.{entry_at, Tabled}
 use Rattle.name_kinds.specs.Tables.{TabledBy, TablesSay}
-use Rattle.name_kinds.specs.Kinds.{kind_as, type_as}
 use Rattle.name_kinds.specs.declared.tables.Tables.{Tables}
-use Rattle.asl_meaning.specs.Declarations.{ExternalType, Declarations, declared_kinds, is_named, with_first, with_external}
+use Rattle.asl_meaning.specs.Declarations.{ExternalType, Declarations, is_named, with_first, with_external}
 use Rattle.acpi_names.proofs.Mentions.{right_nil}
 use Rattle.acpi_names.proofs.Closed.{own_number}
 use Rattle.name_kinds.proofs.Entries.{entry_set, entry_here}

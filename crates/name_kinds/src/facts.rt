@@ -55,8 +55,8 @@ impl Facts {
     }
 }
 
-/// Tables that say nothing yet.
-pub fn blank(alloc: Global, index: &Index) -> Result<Tables, AllocError>
+// Tables that say nothing yet.
+fn blank(alloc: Global, index: &Index) -> Result<Tables, AllocError>
     ensures sized { IfOk result (AreSized index.now.paths) }
     ensures notes { IfOk result (λ t. (has : AbsolutePath → Bool) → TablesSay index.now.paths has t [] nothing_declared) }
 {

@@ -1,5 +1,6 @@
 //! What is said of each path, in tables by its number.
-ghost use Rattle.std.specs.Prelude.{◌≡◌, ◌<◌, ◌≤◌, ◌+◌, ◌^◌, [], length, get_or, IfSome, true};
+ghost use Rattle.std.specs.Prelude.{◌≡◌, ◌<◌, ◌≤◌, ◌+◌, ◌^◌, ◌∷◌, [], length, get_or, IfSome, true};
+ghost use Rattle.acpi_values.specs.Paths.{AbsolutePath};
 ghost use Rattle.asl_tree.specs.Names.{declared_path, denoted as denotes_path};
 ghost use Rattle.asl_meaning.specs.Declarations.{in_root, is_named, kind_of};
 ghost use Rattle.acpi_names.specs.Errors.{Whole};
@@ -13,10 +14,10 @@ ghost use Rattle.name_kinds.specs.Tables.{AreSized, IsThere, IsDeclared, IsExter
 
 use crate::kind::{External, NameKind, Object, root_object};
 use acpi_names::index::{Index, denoted_by};
-use acpi_names::lookup::{find, prefixed, scope_in};
+use acpi_names::lookup::{find, prefixed, scope_in, single};
 use acpi_names::mention::{Declared, Mention, WrittenName};
 use acpi_names::paths::Paths;
-use asl_tree::path::Path;
+use asl_tree::path::{NameSeg, Path};
 use std::alloc::{AllocError, Global};
 
 /// What is said of the paths with these numbers: how each is declared last, its first External, and the number of
@@ -65,6 +66,57 @@ pub fn declared_at(index: &Index, name: WrittenName, scope: usize) -> usize
     match declared_in(&index.paths, name, scope) {
         Some(number) => number,
         None => 0,
+    }
+}
+
+// The one segment of a declared name without a prefix.
+#[tactic(auto, using(crate::proofs::Written::one_segment))]
+fn segment_of(name: WrittenName) -> Option<NameSeg>
+    ensures { (scope : AbsolutePath) → IfSome result (λ segment. declared_path (written_as name.entry) scope ≡ segment ∷ scope) }
+{
+    match name {
+        WrittenName::Path(path) => single(path),
+        WrittenName::Segment(segment) => Some(segment),
+    }
+}
+
+// Whether the path with a number is this segment below the path with another.
+fn is_child(paths: &Paths, number: usize, parent: usize, segment: NameSeg) -> bool
+    ensures within { result ≡ true → number < length paths.now }
+    ensures path { result ≡ true → get_or paths.now number [] ≡ segment ∷ get_or paths.now parent [] }
+{
+    if number >= paths.len() {
+        return false;
+    }
+    match paths.step(number) {
+        Some(step) => step.0 == parent && step.1 == segment,
+        None => false,
+    }
+}
+
+// Whether a declared name is one segment without a prefix, and its path has this number.
+fn has_number(paths: &Paths, name: WrittenName, scope: usize, number: usize) -> bool
+    ensures within { result ≡ true → number < length paths.now }
+    ensures path { result ≡ true → get_or paths.now number [] ≡ declared_path (written_as name.entry) (get_or paths.now scope []) }
+{
+    match segment_of(name) {
+        Some(segment) => is_child(paths, number, scope, segment),
+        None => false,
+    }
+}
+
+/// The number of the path of a name that is declared, where a mention says that it is `path`.
+pub fn declared_with(index: &Index, name: WrittenName, scope: usize, path: usize) -> usize
+    ghost whole: { Whole }
+    requires agrees { Agrees index.now.paths index.now.named.items whole.all }
+    requires there { is_named whole.all (declared_path (written_as name) (get_or index.now.paths scope [])) ≡ true }
+    ensures within { result < length index.now.paths }
+    ensures path { get_or index.now.paths result [] ≡ declared_path (written_as name.entry) (get_or index.now.paths scope []) }
+{
+    if has_number(&index.paths, name, scope, path) {
+        path
+    } else {
+        declared_at(index, name, scope)
     }
 }
 
@@ -175,7 +227,7 @@ fn note_call(index: &Index, tables: &mut Tables, number: usize, args: usize)
 }
 
 /// What one mention says.
-pub fn note(index: &Index, tables: &mut Tables, mention: &Mention)
+pub(crate) fn note(index: &Index, tables: &mut Tables, mention: &Mention)
     ghost whole: { Whole }
     requires flags { length index.now.named.items ≡ length index.now.paths }
     requires agrees { Agrees index.now.paths index.now.named.items whole.all }
@@ -202,10 +254,11 @@ pub fn note(index: &Index, tables: &mut Tables, mention: &Mention)
             name,
             what,
             scope,
+            path,
             ..
         } => {
             let kind = declared_kind(index, *what);
-            let number = declared_at(index, *name, *scope);
+            let number = declared_with(index, *name, *scope, *path);
             note_declared(index, tables, number, kind);
         }
         Mention::Outside {

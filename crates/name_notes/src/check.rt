@@ -25,7 +25,7 @@ use iasl_messages::number::{NAME_IS_UNUSED, RESERVED_NAME_ARGUMENTS};
 use iasl_messages::place::Place;
 use name_checks::fault::text_of_path;
 use name_kinds::known::Known;
-use name_kinds::tables::declared_at;
+use name_kinds::tables::declared_with;
 use std::alloc::{AllocError, Global};
 
 // How many arguments a method at the path with a number has to take, by the last segment of the path.
@@ -132,12 +132,13 @@ fn note(
             name,
             what,
             scope,
+            path,
         } => {
             if is_passed(index, marks, *what, *scope) {
                 return Ok(());
             }
             let paths = &index.paths;
-            let number = declared_at(index, *name, *scope);
+            let number = declared_with(index, *name, *scope, *path);
             let others = takes_others(arguments_due(paths, number), method_arguments(*what));
             tell(
                 alloc,

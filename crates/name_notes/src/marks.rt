@@ -17,7 +17,7 @@ use acpi_names::lookup::scope_in;
 use acpi_names::mention::{Declared, Mention};
 use acpi_names::part::What;
 use acpi_names::paths::Paths;
-use name_kinds::tables::{declared_at, denoted};
+use name_kinds::tables::{declared_with, denoted};
 use std::alloc::{AllocError, Global};
 
 /// Of the paths with these numbers, which are declared as methods, and which are used.
@@ -50,9 +50,10 @@ fn method(index: &Index, mention: &Mention) -> Option<usize>
             name,
             what,
             scope,
+            path,
             ..
         } => match method_arguments(*what) {
-            Some(_) => Some(declared_at(index, *name, *scope)),
+            Some(_) => Some(declared_with(index, *name, *scope, *path)),
             None => None,
         },
         _ => None,

@@ -11,15 +11,15 @@ use Rattle.acpi_names.proofs.Telling.{tells_as, tells_one}
 use Rattle.acpi_names.proofs.Units.{entry_unit, unit_there, unit_none}
 use Rattle.acpi_names.proofs.field.fold_item.Goals as goal
 
-pub returns-in_ok-declared_unit-in-Some-clause-names : goal.returns-in_ok-declared_unit-in-Some-clause-names
-returns-in_ok-declared_unit-in-Some-clause-names c =
+pub returns-in_ok-push-in-Some-clause-names : goal.returns-in_ok-push-in-Some-clause-names
+returns-in_ok-push-in-Some-clause-names c =
     let scope = get_or c.args.index.now.paths c.args.scope [] in
     leads_as c.args.index.now.paths c.declared_unit.new.index.paths c.args.index.now.named.items c.declared_unit.new.index.named.items _ _
     (λ d. ap (λ u. declare_unit u scope d) (sym (unit_there (at_of c.args.node.now) c.args.node.now.term c.in-Some.segment c.in-Some.ensures)))
-    (leads_declared c.args.index.now.paths c.declared_unit.new.index.paths c.args.index.now.named.items c.declared_unit.new.index.named.items (c.in-Some.segment ∷ scope) as_unit c.in_ok-declared_unit-in-Some.ensures.names)
+    (leads_declared c.args.index.now.paths c.declared_unit.new.index.paths c.args.index.now.named.items c.declared_unit.new.index.named.items (c.in-Some.segment ∷ scope) as_unit c.in_ok-path-in-Some.ensures.names)
 
-pub returns-in_ok-declared_unit-in-Some-clause-told : goal.returns-in_ok-declared_unit-in-Some-clause-told
-returns-in_ok-declared_unit-in-Some-clause-told c =
+pub returns-in_ok-push-in-Some-clause-told : goal.returns-in_ok-push-in-Some-clause-told
+returns-in_ok-push-in-Some-clause-told c =
     tells_as c.args.out.now.items c.push.new.self.items _ _
     (λ ps. ap (λ at. M.Declares at (unit_path c.in-Some.segment) as_unit (get_or ps c.args.scope []) ∷ []) (ap spot_as c.spot_of.ensures)
     ∙ entry_unit (node_tree c.args.node.now) _ (get_or ps c.args.scope []) (unit_there (at_of c.args.node.now) c.args.node.now.term c.in-Some.segment c.in-Some.ensures))

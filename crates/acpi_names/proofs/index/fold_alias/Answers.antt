@@ -8,12 +8,12 @@ use Rattle.acpi_names.proofs.FoldTelling.{alias_leads, alias_told, alias_sourcel
 use Rattle.acpi_names.proofs.Telling.{tells_one, tells_then}
 use Rattle.acpi_names.proofs.index.fold_alias.Goals as goal
 
-pub returns-in_ok-declared-in-Some-name_at-clause-names : goal.returns-in_ok-declared-in-Some-name_at-clause-names
-returns-in_ok-declared-in-Some-name_at-clause-names c body =
-    alias_leads c.args.index.now.paths c.declared.new.index.paths c.args.index.now.named.items c.declared.new.index.named.items (trees_of c.args.args.now) body (get_or c.args.index.now.paths c.args.scope []) (named_as c.in-Some.source) (named_as c.in-Some-name_at.alias) (sym c.in-Some.ensures) (sym c.in-Some-name_at.ensures) c.in_ok-declared-in-Some-name_at.ensures.names
+pub returns-in_ok-push-in-Some-name_at-2-clause-names : goal.returns-in_ok-push-in-Some-name_at-2-clause-names
+returns-in_ok-push-in-Some-name_at-2-clause-names c body =
+    alias_leads c.args.index.now.paths c.declared.new.index.paths c.args.index.now.named.items c.declared.new.index.named.items (trees_of c.args.args.now) body (get_or c.args.index.now.paths c.args.scope []) (named_as c.in-Some.source) (named_as c.in-Some-name_at.alias) (sym c.in-Some.ensures) (sym c.in-Some-name_at.ensures) c.in_ok-path-in-Some-name_at.ensures.names
 
-pub returns-in_ok-declared-in-Some-name_at-clause-told : goal.returns-in_ok-declared-in-Some-name_at-clause-told
-returns-in_ok-declared-in-Some-name_at-clause-told c here op body =
+pub returns-in_ok-push-in-Some-name_at-2-clause-told : goal.returns-in_ok-push-in-Some-name_at-2-clause-told
+returns-in_ok-push-in-Some-name_at-2-clause-told c here op body =
     let paths = c.args.index.now.paths in
     let a = c.args.out.now.items in
     let b = c.push.new.self.items in
@@ -21,7 +21,7 @@ returns-in_ok-declared-in-Some-name_at-clause-told c here op body =
     let s = named_as c.in-Some.source in
     let m = named_as c.in-Some-name_at.alias in
     told_as paths c.declared.new.index.paths c.args.index.now.named.items a e _ _ (λ d agrees. alias_told (trees_of c.args.args.now) body (get_or paths c.args.scope []) (spot_as here) op s m d (sym c.in-Some.ensures) (sym c.in-Some-name_at.ensures))
-    (told_later paths paths c.declared.new.index.paths c.args.index.now.named.items a e _ c.in_ok-declared-in-Some-name_at.ensures.others
+    (told_later paths paths c.declared.new.index.paths c.args.index.now.named.items a e _ c.in_ok-path-in-Some-name_at.ensures.others
     (told_value paths c.args.index.now.named.items a e c.args.scope (λ p. M.Used' E.AnObject s.0 s.1 p ∷ M.Declares m.0 m.1 (AliasOf s.1 p) p ∷ []) c.requires.scope_in
     (tells_then a b e _ _ (tells_one a b _ c.in_ok-push-in-Some-name_at.ensures.items) (tells_one b e _ c.in_ok-push-in-Some-name_at-2.ensures.items))))
 

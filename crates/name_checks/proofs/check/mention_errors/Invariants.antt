@@ -20,3 +20,9 @@ ghost-external_errors g a = g.whole
 
 abbrev pub ghost-scope_errors : goal.ghost-scope_errors
 ghost-scope_errors g a = g.whole
+
+abbrev pub ghost-declared_at : goal.ghost-declared_at
+ghost-declared_at g a = g.whole
+
+abbrev pub ghost-declared_with : goal.ghost-declared_with
+ghost-declared_with g a = g.whole

@@ -13,9 +13,8 @@ returns-in_ok-unless-in-Some g c =
     let paths = c.args.facts.now.index.paths in
     let at = spot_as c.args.at in
     let name = c.args.name.now in
-    let notes = c.requires.0.notes in
     finds_as paths c.args.out.now.items c.unless.new.out.items _ _
-    (ap (λ b. spec.unless b (spec.Differs at name)) (c.is_answered.ensures ∙ ap (λ o. not (is_open o) || is_first c.args.args c.first_call-first.result) (c.first_external-external.ensures g.whole.all (record { kinds = notes.kinds; externals = notes.externals }))
+    (ap (λ b. spec.unless b (spec.Differs at name)) (c.is_answered.ensures ∙ ap (λ o. not (is_open o) || is_first c.args.args c.first_call-first.result) c.first_external-external.ensures
     ∙ ap (λ f. not (is_open (lookup g.whole.all.external (get_or paths c.in-Some.number []))) || is_first c.args.args f) c.first_call-first.ensures)
     ∙ one_call g.whole at name c.args.args (get_or paths c.args.scope []) (get_or paths c.in-Some.number []) (ap (path_with paths) (sym c.in-Some.is) ∙ c.requires.1.0))
     (c.in_ok-unless-in-Some.ensures paths)

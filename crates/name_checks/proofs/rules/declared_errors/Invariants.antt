@@ -1,11 +1,5 @@
 use Rattle.name_checks.proofs.rules.declared_errors.Given as goal
 
-abbrev pub ghost-declared_at : goal.ghost-declared_at
-ghost-declared_at g a = g.whole
-
-abbrev pub ghost-is_new : goal.ghost-is_new
-ghost-is_new g a = g.whole
-
 abbrev pub ghost-step_errors : goal.ghost-step_errors
 ghost-step_errors g a = g.whole
 

@@ -14,16 +14,15 @@ returns g c d before =
     let name = c.args.name.now in
     let type = type_as c.args.external in
     let differs = spec.Differs (spot_as c.args.here) name in
-    let here = get_or paths c.declared_at-path.result [] in
-    let e = c.declared_at-path.ensures.path in
-    let notes = c.requires.0.notes in
+    let here = get_or paths c.args.path [] in
+    let e = c.requires.1.1.0 in
     let w0 = c.args.out.now.items in
     let w1 = c.unless.new.out.items in
     let w2 = c.step_errors.new.out.items in
     let w3 = c.length_errors.new.out.items in
     let w4 = c.unless-2.new.out.items in
     finds_then paths w0 w1 w4 _ _
-    (finds_as paths w0 w1 _ _ (ap (λ b. spec.unless (not b) (spec.DeclaredHere at here)) (c.is_declared-declared.ensures g.whole.all (record { kinds = notes.kinds; externals = notes.externals })) ∙ ap (λ p. spec.unless (not (is_some (lookup g.whole.all.declared p))) (spec.DeclaredHere at p)) e) (c.in_ok-unless.ensures paths))
+    (finds_as paths w0 w1 _ _ (ap (λ b. spec.unless (not b) (spec.DeclaredHere at here)) c.is_declared-declared.ensures ∙ ap (λ p. spec.unless (not (is_some (lookup g.whole.all.declared p))) (spec.DeclaredHere at p)) e) (c.in_ok-unless.ensures paths))
     (finds_then paths w1 w2 w4 _ _ c.in_ok-step_errors.ensures
     (finds_then paths w2 w3 w4 _ _
     (finds_as paths w2 w3 _ _ (ap (spec.length_errors at name) e) c.in_ok-length_errors.ensures)

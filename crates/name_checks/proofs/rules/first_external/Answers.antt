@@ -4,5 +4,5 @@ use Rattle.name_kinds.proofs.Noting.{look_here}
 use Rattle.name_checks.proofs.rules.first_external.Goals as goal
 
 pub returns : goal.returns
-returns g c d before =
-    look_here type_as c.args.facts.now.index.paths c.args.tables.now.externals.items c.args.number c.index.result.now (lookup d.external) c.len-count.ensures.distinct c.requires.1.0 c.requires.1.1.externals c.index.ensures before.externals
+returns g c =
+    look_here type_as c.args.facts.now.index.paths c.args.facts.now.tables.externals.items c.args.number c.index.result.now (lookup g.whole.all.external) c.len-count.ensures.distinct c.requires.1 c.requires.0.sized.externals c.index.ensures c.requires.0.notes.externals

@@ -21,7 +21,7 @@ returns-in-Declares-clause-noted g c calls d notes =
     let what = declared_as paths c.in-Declares.what in
     subst (λ m. TablesSay paths has c.note_declared.new.tables (calls ++ called (call_in has (shown paths m))) (after (shown paths m) d)) (sym c.in-Declares.is)
     (noted_plain paths has c.note_declared.new.tables calls (with_declared (declared_path (written_as c.in-Declares.name) (get_or paths c.in-Declares.scope [])) what d)
-    (subst (λ p. TablesSay paths has c.note_declared.new.tables calls (with_declared p what d)) c.declared_at-number.ensures.path (c.note_declared.ensures.noted has calls d what c.declared_kind-kind.ensures notes)))
+    (subst (λ p. TablesSay paths has c.note_declared.new.tables calls (with_declared p what d)) c.declared_with-number.ensures.path (c.note_declared.ensures.noted has calls d what c.declared_kind-kind.ensures notes)))
 
 pub returns-in-Outside-clause-noted : goal.returns-in-Outside-clause-noted
 returns-in-Outside-clause-noted g c calls d notes =
@@ -30,4 +30,4 @@ returns-in-Outside-clause-noted g c calls d notes =
     let external : ExternalType = record { type = c.in-Outside.object; parameters = c.in-Outside.parameters } in
     subst (λ m. TablesSay paths has c.note_outside.new.tables (calls ++ called (call_in has (shown paths m))) (after (shown paths m) d)) (sym c.in-Outside.is)
     (noted_plain paths has c.note_outside.new.tables calls (with_external (in_root (declared_path c.in-Outside.name.now (get_or paths c.in-Outside.scope []))) (declared_path c.in-Outside.name.now (get_or paths c.in-Outside.scope [])) external d)
-    (subst (λ p. TablesSay paths has c.note_outside.new.tables calls (with_external (in_root p) p external d)) c.declared_at-number-in-Outside.ensures.path (c.note_outside.ensures.noted has calls d notes)))
+    (subst (λ p. TablesSay paths has c.note_outside.new.tables calls (with_external (in_root p) p external d)) c.declared_at-number.ensures.path (c.note_outside.ensures.noted has calls d notes)))

@@ -1,4 +1,4 @@
 use Rattle.name_notes.proofs.check.note.Given as goal
 
-abbrev pub ghost-declared_at : goal.ghost-declared_at
-ghost-declared_at g a = g.whole
+abbrev pub ghost-declared_with : goal.ghost-declared_with
+ghost-declared_with g a = g.whole
