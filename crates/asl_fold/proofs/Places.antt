@@ -8,7 +8,7 @@ use Rattle.asl_tree.specs.declared.term.Op.{Op}
 use Rattle.asl_tree.specs.declared.term.Node.{Node}
 use Rattle.asl_tree.specs.declared.term.Term.{Term}
 use Rattle.asl_tree.specs.declared.term.Term as D
-use Rattle.term_places.specs.Places.{holds_terms, inner_places, places_of}
+use Rattle.term_places.specs.Places.{holds_terms, inner_places, places_of, term_places}
 use Rattle.term_places.proofs.Places.{form_places}
 
 pub number_inside : (n : ℕ) → inner_places (D.Integer n) ≡ []
@@ -31,3 +31,7 @@ form_kept place t op args body made more e same =
 pub call_kept : (place : Place) (t : Term) (path : Path) (args made : Vec Node Global) → t ≡ D.Call path args → place ∷ inner_places (D.Call path made) ≡ place ∷ inner_places t
 unfolding inner_places
 call_kept place t path args made e = sym (ap (λ t. place ∷ inner_places t) e)
+
+-- a node with another term
+pub put_places : (node new : Node) (t : Term) → new ≡ record { id = node.id; place = node.place; term = t } → term_places new ≡ node.place ∷ inner_places t
+put_places node new t e = ap term_places e

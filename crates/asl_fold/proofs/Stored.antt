@@ -13,10 +13,12 @@ use Rattle.acpi_state.specs.Outcomes.{choose}
 use Rattle.asl_tree.specs.Constants.{is_unary}
 use Rattle.asl_tree.specs.declared.term.Op.{Op}
 use Rattle.asl_tree.specs.declared.term.Node.{Node}
+use Rattle.asl_tree.specs.declared.term.Term.{Term}
 use Rattle.asl_tree.specs.declared.term.Term as D
 use Rattle.asl_tree.specs.Tree.{At, Tree, Integer, Apply, Trees, no_trees, tree}
 use Rattle.asl_tree.specs.View.{form, operands_as, targets_of, plain_of, apply_of, tree_of, trees_of}
 use Rattle.acpi_names.specs.Walked.{node_tree}
+use Rattle.acpi_names.proofs.Folds.{at_of}
 use Rattle.acpi_names.proofs.Trees.{form_tree}
 use Rattle.asl_fold.specs.declared.fate.Fate.{Fate}
 use Rattle.asl_fold.specs.Folds.{constants, without_fault, result_on, fate_with, last_of, replaced, reduced, folded, folded_args}
@@ -188,3 +190,7 @@ plain_stays at op args body = form_tree at (Op.Plain op) args body ∙ plain_is 
 pub number_is : (at : At) (n : ℕ) → tree_of at (D.Integer n) ≡ Integer n
 unfolding tree_of
 number_is at n = refl
+
+-- a node with another term
+pub put_is : (node new : Node) (t : Term) → new ≡ record { id = node.id; place = node.place; term = t } → node_tree new ≡ tree_of (at_of node) t
+put_is node new t e = ap node_tree e

@@ -196,6 +196,7 @@ fn fate_by(statement: bool, op: IntOp, targets: &[Node], made: Option<u64>) -> F
 }
 
 // What becomes of an operator on integers.
+#[inline(never)]
 fn fate_of(width: Width, statement: bool, op: IntOp, args: &[Node]) -> Fate
     ensures { result ≡ fate_on width statement op (trees_of args.now) }
 {
@@ -214,6 +215,7 @@ fn fate_of(width: Width, statement: bool, op: IntOp, args: &[Node]) -> Fate
 }
 
 /// What becomes of a plain operator whose arguments are folded.
+#[inline(always)]
 pub(crate) fn fate_in(
     width: Width,
     statement: bool,

@@ -17,7 +17,6 @@ use acpi_values::width::Width;
 use asl_tree::term::{Node, Op, Term};
 use iasl_messages::place::Place;
 use std::alloc::{AllocError, Global};
-use std::mem::replace;
 
 // Store of some arguments.
 fn store(alloc: Global, args: Vec<Node>) -> Term
@@ -31,27 +30,35 @@ fn store(alloc: Global, args: Vec<Node>) -> Term
     }
 }
 
+// Puts another term in the place of one.
+#[inline(never)]
+fn put_term(node: &mut Node, term: Term)
+    ensures { node.new ≡ record { id = node.old.id; place = node.old.place; term = term } }
+{
+    node.term = term;
+}
+
 // Store of a number into the last of some arguments, which is a target. The number has the id and the place of the operator.
+#[inline(never)]
 fn stored(
     alloc: Global,
     id: u32,
     place: Place,
     number: u64,
-    args: Vec<Node>,
+    args: &mut Vec<Node>,
 ) -> Result<Term, AllocError>
     ensures tree { IfOk result
         (λ made. (at : At)
-        → tree_of at made ≡ Apply (P.Data DataOp.Store) (tree (Integer number) (last_of (trees_of args.items))) no_trees) }
+        → tree_of at made ≡ Apply (P.Data DataOp.Store) (tree (Integer number) (last_of (trees_of args.old.items))) no_trees) }
     ensures places { IfOk result (λ made. inner_places made ≡ []) }
 {
-    let mut left = args;
     let mut all = Vec::with_capacity(alloc, 2)?;
     all.push(Node {
         id,
         place,
         term: Term::Integer(number),
     })?;
-    match left.pop() {
+    match args.pop() {
         Some(target) => {
             all.push(target)?;
             Ok(store(alloc, all))
@@ -177,12 +184,12 @@ fn fold_node(
                 Op::Plain(plain) => match fate_in(width, statement, plain, args, body) {
                     Fate::Stays => Ok(()),
                     Fate::Becomes(value) => {
-                        node.term = Term::Integer(value);
+                        put_term(node, Term::Integer(value));
                         Ok(())
                     }
                     Fate::Stores(value) => {
-                        let taken = replace(args, Vec::new(alloc));
-                        node.term = stored(alloc, id, place, value, taken)?;
+                        let made = stored(alloc, id, place, value, args)?;
+                        put_term(node, made);
                         Ok(())
                     }
                 },

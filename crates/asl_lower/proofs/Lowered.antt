@@ -90,6 +90,22 @@ target_next all new omitted target (suc (suc n)) next us lt e f o h =
     ap (λ k. joined (trees_of new) (last_target k (node_tree target))) is ∙ ap (λ ns. joined (trees_of ns) (last_target (suc n) (node_tree target))) f
     ∙ joined_behind all omitted (last_target (suc n) (node_tree target)) ∙ ap (λ t. joined (trees_of all) (tree t (last_target (suc n) (node_tree target)))) (omitted_node omitted o) ∙ h
 
+omitted_first : (n : ℕ) → last_target (suc n) Omitted ≡ tree Omitted (last_target n Omitted)
+omitted_first zero = refl
+omitted_first (suc n) = refl
+
+-- one more target that is left out, and none more
+pub omitted_next : (all new : List Node) (omitted : Node) (left next : ℕ) (us : Trees) → next + 1 ≡ left → new ≡ all ++ omitted ∷ [] → omitted.term ≡ D.Omitted
+    → joined (trees_of all) (last_target left Omitted) ≡ us → joined (trees_of new) (last_target next Omitted) ≡ us
+omitted_next all new omitted left next us e f o h =
+    let is : left ≡ suc next = omega (arith, e) in
+    ap (λ ns. joined (trees_of ns) (last_target next Omitted)) f
+    ∙ joined_behind all omitted (last_target next Omitted) ∙ ap (λ t. joined (trees_of all) (tree t (last_target next Omitted))) (omitted_node omitted o)
+    ∙ ap (joined (trees_of all)) (sym (omitted_first next)) ∙ ap (λ n. joined (trees_of all) (last_target n Omitted)) (sym is) ∙ h
+
+pub omitted_none : (all : List Node) (left : ℕ) (us : Trees) → left ≡ 0 → joined (trees_of all) (last_target left Omitted) ≡ us → trees_of all ≡ us
+omitted_none all left us e h = sym (ap (λ n. joined (trees_of all) (last_target n Omitted)) e ∙ joined_none (trees_of all)) ∙ h
+
 pub target_last : (all new : List Node) (target : Node) (left : ℕ) (us : Trees) → left ≡ 1 → new ≡ all ++ target ∷ [] → joined (trees_of all) (last_target left (node_tree target)) ≡ us → trees_of new ≡ us
 target_last all new target left us e f h = ap trees_of f ∙ behind_all all target ∙ ap (λ n. joined (trees_of all) (last_target n (node_tree target))) (sym e) ∙ h
 
@@ -258,10 +274,10 @@ assign_by_misfits at op (a ∷ b ∷ c ∷ args) never = refl
 
 -- ---- symbols that fit
 
-pub operator_lowered : (at : At) (op : Plain) (args : Trees) (operands all : Trees) (omitted : Node) → fits (row_of op).operands args ≡ true → operands ≡ named_args args → omitted.term ≡ D.Omitted
-    → all ≡ joined operands (last_target (row_of op).targets (node_tree omitted)) → form at (Op.Plain op) all no_trees ≡ named (form at (Op.Symbolic (S.Operator op)) args no_trees)
-operator_lowered at op args operands all omitted e ho o ha =
-    ap (λ ts. form at (Op.Plain op) ts no_trees) (ha ∙ ap (λ ts. joined ts (last_target (row_of op).targets (node_tree omitted))) ho ∙ ap (λ t. joined (named_args args) (last_target (row_of op).targets t)) (omitted_node omitted o))
+pub operator_lowered : (at : At) (op : Plain) (args : Trees) (operands all : Trees) → fits (row_of op).operands args ≡ true → operands ≡ named_args args
+    → all ≡ joined operands (last_target (row_of op).targets Omitted) → form at (Op.Plain op) all no_trees ≡ named (form at (Op.Symbolic (S.Operator op)) args no_trees)
+operator_lowered at op args operands all e ho ha =
+    ap (λ ts. form at (Op.Plain op) ts no_trees) (ha ∙ ap (λ ts. joined ts (last_target (row_of op).targets Omitted)) ho)
     ∙ sym (symbol_named at op args e)
 
 -- a term that is an operator which is given a target

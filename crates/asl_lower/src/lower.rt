@@ -4,7 +4,7 @@ ghost use Rattle.acpi_values.specs.Operators.{row_of};
 ghost use Rattle.acpi_names.specs.Parts.{term_size, nodes_size};
 ghost use Rattle.acpi_names.specs.Walked.{term_shape, node_tree};
 ghost use Rattle.asl_tree.specs.Symbols.{compound_operator};
-ghost use Rattle.asl_tree.specs.Tree.{At, no_trees};
+ghost use Rattle.asl_tree.specs.Tree.{At, Omitted, no_trees};
 ghost use Rattle.asl_tree.specs.View.{form, tree_of, trees_of};
 ghost use Rattle.asl_tree.specs.declared.term.Op.{Op as O};
 ghost use Rattle.iasl_messages.specs.declared.place.Place.{Place as Here};
@@ -114,6 +114,23 @@ fn put_targets(op: Plain, args: &mut Vec<Node>, target: Node) -> Result<(), Allo
     Ok(())
 }
 
+// The targets of an operator behind its operands, all of them left out.
+fn put_omitted(op: Plain, args: &mut Vec<Node>, id: u32, place: Place) -> Result<(), AllocError>
+    ensures { OnOk result
+        (trees_of args.new.items ≡ joined (trees_of args.old.items) (last_target (row_of op).targets Omitted)) }
+{
+    let mut left = targets(op);
+    while left > 0 {
+        args.push(Node {
+            id,
+            place,
+            term: Term::Omitted,
+        })?;
+        left -= 1;
+    }
+    Ok(())
+}
+
 /// The program in which each symbolic operator and assignment is an operator with a name (ACPI Specification 6.4, 19.2.6), and
 /// each ElseIf is an If in an Else (19.6.40). A node that is made has the id and the place of the one that it stands for.
 pub fn lower(alloc: Global, terms: Vec<Node>) -> Result<Vec<Node>, AllocError>
@@ -149,6 +166,7 @@ fn lower_each(alloc: Global, nodes: &mut Vec<Node>) -> Result<(), AllocError>
 }
 
 #[cycle(lower)]
+#[inline(always)]
 fn lower_node(alloc: Global, node: &mut Node) -> Result<(), AllocError>
     ensures tree { OnOk result (node_tree node.new ≡ named (node_tree node.old)) }
     ensures places { OnOk result (nested_at node.new.place node.new.term ≡ lowered_at node.old.place node.old.term) }
@@ -170,6 +188,7 @@ fn lower_node(alloc: Global, node: &mut Node) -> Result<(), AllocError>
 
 // A form with an id and a place. A symbol with something in braces stays as it is.
 #[cycle(lower)]
+#[inline(never)]
 fn lower_form(
     alloc: Global,
     id: u32,
@@ -281,15 +300,7 @@ fn lower_operator(
         return Ok(Op::Symbolic(Symbolic::Operator(op)));
     }
     lower_each(alloc, args)?;
-    put_targets(
-        op,
-        args,
-        Node {
-            id,
-            place,
-            term: Term::Omitted,
-        },
-    )?;
+    put_omitted(op, args, id, place)?;
     Ok(Op::Plain(op))
 }
 

@@ -34,6 +34,15 @@ plans_none : nodes (plans_of []) ≡ 0
 unfolding plans_of
 plans_none = refl
 
+pub none_counted : (ns : List Node) → length ns ≡ 0 → nodes (plans_of ns) ≡ 0
+none_counted [] e = plans_none
+none_counted (n ∷ ns) e = absurd (omega (arith, e))
+
+pub none_trees : (first : ℕ) (ns : List Node) → length ns ≡ 0 → trees_of ns ≡ numbered_all first (plans_of ns)
+unfolding trees_of plans_of numbered_all
+none_trees first [] e = refl
+none_trees first (n ∷ ns) e = absurd (omega (arith, e))
+
 numbered_none : (next : ℕ) → numbered_all next (plans_of []) ≡ no_trees
 unfolding plans_of numbered_all
 numbered_none next = refl

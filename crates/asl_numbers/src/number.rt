@@ -38,6 +38,22 @@ fn number_nodes(nodes: &mut Vec<Node>, first: u32) -> Option<u32>
     Some(next)
 }
 
+// The same for what stands in braces, which mostly is nothing.
+#[cycle(number)]
+#[inline(always)]
+fn number_within(body: &mut Vec<Node>, first: u32) -> Option<u32>
+    ensures next { IfSome result (λ next. next ≡ first + node_count (plans_of body.old.items)) }
+    ensures trees { IfSome result (λ next. trees_of body.new.items ≡ numbered_all first (plans_of body.old.items)) }
+    ensures plans { IfSome result (λ next. plans_of body.new.items ≡ plans_of body.old.items) }
+    ensures none { IfNone result (2 ^ 32 ≤ first + node_count (plans_of body.old.items)) }
+{
+    if body.is_empty() {
+        Some(first)
+    } else {
+        number_nodes(body, first)
+    }
+}
+
 // A node with this number, and those inside it with the numbers behind it, where they stand. It answers the number behind
 // the last, and None exactly where that number is more than 32 bits hold.
 #[cycle(number)]
@@ -58,7 +74,7 @@ fn number_node(node: &mut Node, number: u32) -> Option<u32>
         }
         Term::Form { op: _, args, body } => {
             let next = number_nodes(args, first)?;
-            let next = number_nodes(body, next)?;
+            let next = number_within(body, next)?;
             Some(next)
         }
         _ => Some(first),

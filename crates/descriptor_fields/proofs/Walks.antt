@@ -36,6 +36,10 @@ named_from : (ns : List Node) (i : ℕ) (d : Node) (b : Bool) → i < length ns 
 named_from ns i d b lt is e =
     ap (λ ns. names_descriptors (plans_of ns)) (from_node ns i d lt is) ∙ ap names_descriptors (more_plans_are d (drop (i + 1) ns)) ∙ ap (λ c. c || names_descriptors (plans_of (drop (i + 1) ns))) (sym e)
 
+pub none_named : (ns : List Node) → length ns ≡ 0 → names_descriptors (plans_of ns) ≡ false
+none_named [] e = ap names_descriptors no_plans_are
+none_named (n ∷ ns) e = absurd (omega (arith, e))
+
 pub next_unnamed : (ns : List Node) (i : ℕ) (d : Node) (b all : Bool) → i < length ns → d ≡ get_or ns i d → b ≡ names_descriptor (plan_of d.term) → b ≡ false → names_descriptors (plans_of (drop i ns)) ≡ all → names_descriptors (plans_of (drop (i + 1) ns)) ≡ all
 next_unnamed ns i d b all lt is e none inv = sym (named_from ns i d b lt is e ∙ ap (λ c. c || names_descriptors (plans_of (drop (i + 1) ns))) none) ∙ inv
 

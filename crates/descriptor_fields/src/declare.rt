@@ -56,8 +56,21 @@ fn names_descriptor(term: &Term) -> bool
     match term {
         Term::Fill { named, .. } => !named.as_slice().is_empty(),
         Term::Call { args, .. } => names_descriptors(args),
-        Term::Form { args, body, .. } => names_descriptors(args) || names_descriptors(body),
+        Term::Form { args, body, .. } => names_descriptors(args) || names_within(body),
         _ => false,
+    }
+}
+
+// Whether any has one in what stands in braces, which mostly is nothing.
+#[cycle(some)]
+#[inline(always)]
+fn names_within(body: &[Node]) -> bool
+    ensures { result ≡ spec.names_descriptors (plans_of body.now) }
+{
+    if body.is_empty() {
+        false
+    } else {
+        names_descriptors(body)
     }
 }
 

@@ -34,6 +34,27 @@ call_is t path read args list p a e = e ∙ ap (λ q. D.Call q args) (sym p) ∙
 pub form_is : (t : Term) (op read : Op) (args list body terms : Vec Node Global) → read ≡ op → list ≡ args → terms ≡ body → t ≡ D.Form op args body → t ≡ D.Form read list terms
 form_is t op read args list body terms o a b e = e ∙ ap (λ q. D.Form q args body) (sym o) ∙ ap (λ q. D.Form read q body) (sym a) ∙ ap (D.Form read list) (sym b)
 
+-- a term that is no name
+pub unnamed_is : (t : Term) → ((p : Path) → t ≡ D.Name p → ⊥) → path_of t ≡ None
+unnamed_is t not_name = by_layer (D.out-Term t) (sym (D.roll-out-Term t))
+  where
+    by_layer : (f : D.Term-F Term Node) → t ≡ D.roll-Term f → path_of t ≡ None
+    by_layer (D.Term-F.Name p) e = absurd (not_name p (e ∙ V.rolls-Name p))
+    by_layer (D.Term-F.Call p v) e = ap path_of (e ∙ V.rolls-Call p v)
+    by_layer (D.Term-F.Form o v w) e = ap path_of (e ∙ V.rolls-Form o v w)
+    by_layer (D.Term-F.Integer n) e = ap path_of (e ∙ V.rolls-Integer n)
+    by_layer (D.Term-F.Text text) e = ap path_of (e ∙ V.rolls-Text text)
+    by_layer (D.Term-F.Fill bytes named) e = ap path_of (e ∙ V.rolls-Fill bytes named)
+    by_layer (D.Term-F.Word word) e = ap path_of (e ∙ V.rolls-Word word)
+    by_layer (D.Term-F.Local n) e = ap path_of (e ∙ V.rolls-Local n)
+    by_layer (D.Term-F.Arg n) e = ap path_of (e ∙ V.rolls-Arg n)
+    by_layer (D.Term-F.Debug) e = ap path_of (e ∙ V.rolls-Debug)
+    by_layer (D.Term-F.Omitted) e = ap path_of (e ∙ V.rolls-Omitted)
+    by_layer (D.Term-F.Unit p n) e = ap path_of (e ∙ V.rolls-Unit p n)
+    by_layer (D.Term-F.Skip n) e = ap path_of (e ∙ V.rolls-Skip n)
+    by_layer (D.Term-F.Offset n) e = ap path_of (e ∙ V.rolls-Offset n)
+    by_layer (D.Term-F.Access access attribute count) e = ap path_of (e ∙ V.rolls-Access access attribute count)
+
 -- a term that is no name, no call and no form
 pub another : (t : Term) → path_of t ≡ None → ((p : Path) (v : Vec Node Global) → t ≡ D.Call p v → ⊥) → ((o : Op) (v w : Vec Node Global) → t ≡ D.Form o v w → ⊥) → term_shape t ≡ Another
 another t unnamed not_call not_form = by_layer (D.out-Term t) (sym (D.roll-out-Term t))
@@ -63,9 +84,6 @@ module _ (shorten : Bool) (also has : AbsolutePath → Bool) (says : AbsolutePat
   pub element_named : (t : Term) (path new : Path) (other : Tree) → t ≡ D.Name path → new ≡ spelled_item has shorten path scope → tree_of at (D.Name new) ≡ element_spelled shorten has (tree_of at t) other scope
   unfolding tree_of
   element_named t path new other e same = ap (Use at) same ∙ sym (ap (λ t. element_spelled shorten has (tree_of at t) other scope) e)
-
-  pub name_kept : (t : Term) (path : Path) → t ≡ D.Name path → path ≡ spelled_use also has shorten path scope → tree_of at t ≡ spelled shorten also has says (tree_of at t) scope
-  name_kept t path e same = ap (tree_of at) e ∙ name_spelled t path path e same
 
   pub element_kept : (t : Term) (path : Path) (other : Tree) → t ≡ D.Name path → path ≡ spelled_item has shorten path scope → tree_of at t ≡ element_spelled shorten has (tree_of at t) other scope
   element_kept t path other e same = ap (tree_of at) e ∙ element_named t path path other e same

@@ -14,7 +14,7 @@ ghost use Rattle.acpi_names.specs.Walked.{node_tree, value_form_of};
 ghost use Rattle.term_places.specs.Places.{places_of, term_places};
 ghost use Rattle.acpi_names.specs.declared.part.NameRole.TheVariants as P;
 
-use crate::written::{other_element, other_name, spell_name, written_external};
+use crate::written::{other_element, spell_name, written_external};
 use acpi_names::index::{Index, reach};
 use acpi_names::lookup::{denotes, prefixed};
 use acpi_names::mention::{Occurrence, spot_of};
@@ -175,7 +175,9 @@ fn spell_item(
     }
 }
 
+// A term, which is a name or has names in it, or stays as it is.
 #[cycle(spell)]
+#[inline(always)]
 fn spell_one(
     alloc: Global,
     index: &mut Index,
@@ -196,23 +198,22 @@ fn spell_one(
         (get_or index.old.paths scope []))) }
     ensures places { OnOk result (term_places node.new ≡ term_places node.old) }
 {
-    match &node.term {
-        Term::Name(path) => match other_name(alloc, index, also, shorten, path, scope)? {
-            Some(other) => {
-                node.term = Term::Name(other);
-                Ok(())
-            }
-            None => Ok(()),
-        },
-        _ => {
+    match &mut node.term {
+        Term::Name(path) => {
+            spell_name(alloc, index, also, shorten, path, scope)?;
+            Ok(())
+        }
+        Term::Call { .. } | Term::Form { .. } => {
             spell_inner(alloc, index, calls, also, shorten, node, scope)?;
             Ok(())
         }
+        _ => Ok(()),
     }
 }
 
 // A term that is no name.
 #[cycle(spell)]
+#[inline(never)]
 fn spell_inner(
     alloc: Global,
     index: &mut Index,
@@ -455,6 +456,7 @@ fn spell_inside(
 }
 
 // The scope of the terms of a declared name.
+#[inline(never)]
 fn declared_place(
     index: &mut Index,
     calls: &[Option<usize>],
@@ -484,6 +486,7 @@ fn declared_place(
 }
 
 // The scope of the terms of a Scope; one whose name denotes nothing has the root's.
+#[inline(never)]
 fn opened_place(index: &Index, args: &[Node], scope: usize) -> usize
     requires scope_in { scope < length index.now.paths }
     requires all { length index.now.named.items ≡ length index.now.paths }
@@ -504,6 +507,7 @@ fn opened_place(index: &Index, args: &[Node], scope: usize) -> usize
 }
 
 // The type and the arity of an External, as they are written.
+#[inline(never)]
 fn spell_external(
     index: &Index,
     calls: &[Option<usize>],

@@ -107,6 +107,7 @@ fn shortened_element(
 
 /// The name of an element of a Package, whose object may not be there yet, where that is not how it is written: what
 /// would be searched is written from the root, and another name in the shortest spelling where `shorten` asks for it.
+#[inline(never)]
 pub(crate) fn other_element(
     alloc: Global,
     index: &Index,
@@ -138,6 +139,7 @@ pub(crate) fn other_element(
 }
 
 /// Writes a used name so that its search finds what it denotes.
+#[inline(never)]
 pub(crate) fn spell_name(
     alloc: Global,
     index: &Index,

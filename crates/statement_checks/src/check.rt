@@ -1,5 +1,5 @@
 //! Loops and Switches that are left, and arguments of methods, checked.
-ghost use Rattle.std.specs.Prelude.{◌≡◌, ◌%◌, ◌++◌, IfOk, OnOk};
+ghost use Rattle.std.specs.Prelude.{◌≡◌, ◌%◌, ◌++◌, true, IfOk, OnOk};
 ghost use Rattle.asl_shape.specs.Plans.{plan_at, plan_of, plans_of, number_of};
 ghost use Rattle.statement_checks.specs.Statements as spec;
 
@@ -96,6 +96,19 @@ fn misses_loop(op: Op, around: Around) -> bool
     }
 }
 
+// A message without a name.
+#[inline(never)]
+fn tell(alloc: Global, out: &mut Messages, number: u16, place: Place) -> Result<(), AllocError>
+    ensures { OnOk result (out.new ≡ out.old ++ spec.told true number place) }
+{
+    out.push(Message {
+        number,
+        place,
+        name: Text::new(alloc),
+    })?;
+    Ok(())
+}
+
 // A message without a name, where something is wrong.
 fn tell_if(
     alloc: Global,
@@ -109,11 +122,7 @@ fn tell_if(
     if !wrong {
         return Ok(());
     }
-    out.push(Message {
-        number,
-        place,
-        name: Text::new(alloc),
-    })?;
+    tell(alloc, out, number, place)?;
     Ok(())
 }
 
@@ -123,9 +132,9 @@ fn term_errors(
     alloc: Global,
     out: &mut Messages,
     node: &Node,
-    around: Around,
+    around: &Around,
 ) -> Result<(), AllocError>
-    ensures { OnOk result (out.new ≡ out.old ++ spec.term_errors around node.now.place (plan_of node.now.term)) }
+    ensures { OnOk result (out.new ≡ out.old ++ spec.term_errors around.now node.now.place (plan_of node.now.term)) }
 {
     match &node.term {
         Term::Arg(index) => {
@@ -138,13 +147,14 @@ fn term_errors(
             Ok(())
         }
         Term::Form { op, args, body } => {
-            let wrong = misses_loop(*op, around);
+            let wrong = misses_loop(*op, *around);
             tell_if(alloc, out, wrong, number::NO_LOOP, node.place)?;
             all_errors(alloc, out, args, around)?;
             if body.is_empty() {
                 return Ok(());
             }
-            all_errors(alloc, out, body, around_body(*op, args, around))?;
+            let inner = around_body(*op, args, *around);
+            all_errors(alloc, out, body, &inner)?;
             Ok(())
         }
         _ => Ok(()),
@@ -157,9 +167,9 @@ fn all_errors(
     alloc: Global,
     out: &mut Messages,
     nodes: &[Node],
-    around: Around,
+    around: &Around,
 ) -> Result<(), AllocError>
-    ensures { OnOk result (out.new ≡ out.old ++ spec.statement_errors around (plans_of nodes.now)) }
+    ensures { OnOk result (out.new ≡ out.old ++ spec.statement_errors around.now (plans_of nodes.now)) }
 {
     for node in nodes {
         term_errors(alloc, out, node, around)?;
@@ -182,6 +192,6 @@ pub fn statement_errors(alloc: Global, terms: &[Node]) -> Result<Messages, Alloc
         in_for: false,
         far: false,
     };
-    all_errors(alloc, &mut out, terms, outside)?;
+    all_errors(alloc, &mut out, terms, &outside)?;
     Ok(out)
 }

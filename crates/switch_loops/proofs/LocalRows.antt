@@ -1,6 +1,7 @@
 -- The Locals that forms name, by their trees.
 use Rattle.std.proofs.Common.{◌≡◌, ℕ, Bool, true, false, List, [], ◌∷◌, ◌++◌, Option, Some, None, refl, sym, ap, ◌∙◌, append_assoc}
 use Rattle.std.proofs.lemmas.List.{append-nil}
+use Rattle.std.specs.List.{list_any}
 use Rattle.std.specs.Prelude.{nat_le, if◌then◌else◌}
 use Rattle.asl_tree.specs.FieldItems.{FieldItem}
 use Rattle.asl_tree.specs.View.{fits, operands_as, targets_of, operated, symbol_of, form, plain_of, apply_of, buffer, body_bytes, packaged, counted, items_in}
@@ -19,12 +20,19 @@ use Rattle.asl_tree.specs.Tree.{At, Tree, Integer, String, Omitted, Use, Package
 use Rattle.acpi_names.specs.Walked.{fitting_value}
 use Rattle.acpi_names.specs.declared.part.ValueForm.TheVariants as V
 use Rattle.hidden_locals.specs.Locals.{locals, locals_all}
-use Rattle.switch_loops.specs.Reads.{form_locals, operand_locals, reads_of, value_reads}
+use Rattle.switch_loops.specs.Reads.{form_locals, is_raw, operand_locals, reads_of, value_reads}
 use Rattle.switch_loops.specs.declared.locals.Reads.{Reads}
 
-pub plain_locals : (ts : Trees) → operand_locals [] ts ≡ locals_all ts
+plain_locals : (ts : Trees) → operand_locals [] ts ≡ locals_all ts
 plain_locals no_trees = refl
 plain_locals (tree t ts) = ap (λ ls. locals t ++ ls) (plain_locals ts)
+
+-- where none of them is a constant
+pub no_constants : (letters : List Letter) (ts : Trees) → list_any is_raw letters ≡ false → operand_locals letters ts ≡ locals_all ts
+no_constants [] ts e = plain_locals ts
+no_constants (letter ∷ letters) no_trees e = refl
+no_constants (L.Raw size ∷ letters) (tree t ts) e = absurd cc
+no_constants (letter ∷ letters) (tree t ts) e = ap (λ ls. locals t ++ ls) (no_constants letters ts e)
 
 operands_locals : (letters : List Letter) (ts : Trees) → locals_all (operands_as letters ts) ++ locals_all (targets_of letters ts) ≡ operand_locals letters ts
 operands_locals [] ts = sym (plain_locals ts)

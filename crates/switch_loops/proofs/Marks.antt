@@ -10,7 +10,7 @@ use Rattle.asl_tree.specs.Tree.{Tree, Trees, no_trees, tree}
 use Rattle.asl_tree.specs.View.{trees_of}
 use Rattle.acpi_names.specs.Walked.{node_tree}
 use Rattle.acpi_names.proofs.Telling.{trees_at, no_more}
-use Rattle.hidden_locals.specs.Locals.{is_named, locals_all}
+use Rattle.hidden_locals.specs.Locals.{is_named, locals, locals_all}
 use Rattle.hidden_locals.specs.Turns.{nth, others}
 use Rattle.hidden_locals.specs.Switches.{depth_all, is_enough}
 use Rattle.switch_loops.specs.Measures.{capped, measured}
@@ -139,6 +139,19 @@ operand_next letters nodes i node found next c whole lt is k e h =
     ∙ ap (marked_all found) (sym (operand_suc letters i (node_tree node) (trees_of (drop (suc i) nodes))))
     ∙ ap (λ (n : Node). marked_all found (operand_locals (drop i (letters_as letters)) (tree (node_tree n) (trees_of (drop (suc i) nodes))))) is
     ∙ ap (λ ts. marked_all found (operand_locals (drop i (letters_as letters)) ts)) (sym (trees_at nodes i node lt)) ∙ h
+
+pub list_next : (nodes : List Node) (i : ℕ) (node : Node) (found next whole : List Bool) → i < length nodes → node ≡ get_or nodes i node → next ≡ marked_all found (locals (node_tree node))
+    → marked_all found (locals_all (trees_of (drop i nodes))) ≡ whole → marked_all next (locals_all (trees_of (drop (i + 1) nodes))) ≡ whole
+list_next nodes i node found next whole lt is e h =
+    let more : i + 1 ≡ suc i = omega arith in
+    ap (λ n. marked_all next (locals_all (trees_of (drop n nodes)))) more
+    ∙ ap (λ ns. marked_all ns (locals_all (trees_of (drop (suc i) nodes)))) e
+    ∙ sym (marked-append found (locals (node_tree node)) (locals_all (trees_of (drop (suc i) nodes))))
+    ∙ ap (λ (n : Node). marked_all found (locals_all (tree (node_tree n) (trees_of (drop (suc i) nodes))))) is
+    ∙ ap (λ ts. marked_all found (locals_all ts)) (sym (trees_at nodes i node lt)) ∙ h
+
+pub list_end : (nodes : List Node) (i : ℕ) (found whole : List Bool) → length nodes ≤ i → marked_all found (locals_all (trees_of (drop i nodes))) ≡ whole → found ≡ whole
+list_end nodes i found whole le h = sym (ap (λ ts. marked_all found (locals_all ts)) (no_more nodes i le)) ∙ h
 
 none_left : (letters : List L.Letter) → operand_locals letters no_trees ≡ []
 none_left [] = refl

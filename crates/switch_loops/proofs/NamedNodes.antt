@@ -11,8 +11,8 @@ use Rattle.asl_tree.specs.View.{tree_of, trees_of}
 use Rattle.acpi_names.specs.Walked.{node_tree}
 use Rattle.acpi_names.proofs.Trees.{form_tree, call_tree}
 use Rattle.hidden_locals.specs.Locals.{locals, locals_all}
-use Rattle.switch_loops.specs.Reads.{marked, marked_all, operand_locals, form_locals, reads_of}
-use Rattle.switch_loops.proofs.LocalRows.{plain_locals, named_form}
+use Rattle.switch_loops.specs.Reads.{marked, marked_all, form_locals, reads_of}
+use Rattle.switch_loops.proofs.LocalRows.{named_form}
 use Rattle.switch_loops.proofs.Marks.{marked-append}
 
 local_is : (at : At) (t : Term) (i : ℕ) → t ≡ D.Local i → locals (tree_of at t) ≡ i ∷ []
@@ -22,16 +22,12 @@ local_is at t i e = ap (λ t. locals (tree_of at t)) e
 pub local_named : (node : Node) (i : ℕ) (found : List Bool) → node.term ≡ D.Local i → marked found i ≡ marked_all found (locals (node_tree node))
 local_named node i found e = sym (ap (marked_all found) (local_is (record { id = node.id; place = node.place }) node.term i e))
 
-pub arguments_named : (found : List Bool) (args : Trees) → marked_all found (operand_locals [] args) ≡ marked_all found (locals_all args)
-arguments_named found args = ap (marked_all found) (plain_locals args)
+pub both_named : (found first : List Bool) (args body : Trees) → first ≡ marked_all found (locals_all args) → marked_all first (locals_all body) ≡ marked_all found (locals_all args ++ locals_all body)
+both_named found first args body e = ap (λ f. marked_all f (locals_all body)) e ∙ sym (marked-append found (locals_all args) (locals_all body))
 
-pub both_named : (found first : List Bool) (args body : Trees) → first ≡ marked_all found (operand_locals [] args) → marked_all first (operand_locals [] body) ≡ marked_all found (locals_all args ++ locals_all body)
-both_named found first args body e =
-    ap (marked_all first) (plain_locals body) ∙ ap (λ f. marked_all f (locals_all body)) (e ∙ arguments_named found args) ∙ sym (marked-append found (locals_all args) (locals_all body))
-
-pub call_named : (node : Node) (path : Path) (args : Vec Node Global) (nodes : List Node) (found result : List Bool) → node.term ≡ D.Call path args → nodes ≡ args.items → result ≡ marked_all found (operand_locals [] (trees_of nodes)) → result ≡ marked_all found (locals (node_tree node))
+pub call_named : (node : Node) (path : Path) (args : Vec Node Global) (nodes : List Node) (found result : List Bool) → node.term ≡ D.Call path args → nodes ≡ args.items → result ≡ marked_all found (locals_all (trees_of nodes)) → result ≡ marked_all found (locals (node_tree node))
 call_named node path args nodes found result e f h =
-    h ∙ ap (λ ns. marked_all found (operand_locals [] (trees_of ns))) f ∙ arguments_named found (trees_of args.items)
+    h ∙ ap (λ ns. marked_all found (locals_all (trees_of ns))) f
     ∙ ap (λ t. marked_all found (locals t)) (sym (ap (tree_of (record { id = node.id; place = node.place })) e ∙ call_tree (record { id = node.id; place = node.place }) path args))
 
 pub form_named : (node : Node) (op : Op) (args body : Vec Node Global) (first second : List Node) (found result : List Bool) → node.term ≡ D.Form op args body → first ≡ args.items → second ≡ body.items

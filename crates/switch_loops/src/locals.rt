@@ -1,15 +1,18 @@
 //! The Locals that terms name.
 ghost use Rattle.std.specs.Prelude.{◌≡◌, ◌≤◌, ◌+◌, ◌++◌, [], ◌∷◌, if◌then◌else◌, slice_get, length, IfOk, OnOk};
+ghost use Rattle.std.specs.List.{list_any};
+ghost use Rattle.acpi_values.specs.Operators.{row_of};
 ghost use Rattle.acpi_names.specs.Parts.{is_item_list, is_item_term};
 ghost use Rattle.acpi_names.specs.Walked.{node_tree};
 ghost use Rattle.asl_operators.specs.Letters.{letters_as};
 ghost use Rattle.asl_tree.specs.View.{trees_of};
 ghost use Rattle.hidden_locals.specs.Locals.{locals, locals_all};
-ghost use Rattle.switch_loops.specs.Reads.{form_locals, letter_names, operand_locals, marked, marked_all, none_named, is_marked, others_of};
+ghost use Rattle.switch_loops.specs.Reads.{form_locals, letter_names, operand_locals, is_raw, marked, marked_all, none_named};
+ghost use Rattle.switch_loops.specs.Reads.{is_marked, others_of};
 ghost use Rattle.switch_loops.specs.Reads.{is_constant as constant_letter, reads_of as form_reads, value_reads as reads_of_value};
 
 use acpi_names::part::{NameRole, ValueForm, part_for, value_form_for};
-use acpi_values::operator::Plain;
+use acpi_values::operator::{DataOp, EventOp, Plain};
 use asl_operators::letter::Letter;
 use asl_operators::rows::letters;
 use asl_tree::term::{Node, Op, Term};
@@ -28,16 +31,14 @@ impl Locals {
         Locals { named: [false; 8] }
     }
 
-    // With one Local more.
-    fn with(self, index: u8) -> Locals
-        ensures { result.named ≡ marked self.named index }
+    // From now on a Local is named.
+    fn mark(&mut self, index: u8)
+        ensures { self.new.named ≡ marked self.old.named index }
     {
-        let mut named = self.named;
         let index = usize::from(index);
         if index < 8 {
-            named[index] = true;
+            self.named[index] = true;
         }
-        Locals { named }
     }
 
     fn names(self, index: u8) -> bool
@@ -140,6 +141,7 @@ fn value_reads(form: ValueForm) -> Reads
 }
 
 // What of a declaration or of a statement may name Locals.
+#[inline(never)]
 fn statement_reads(op: Op, args: &[Node], body: &[Node]) -> Reads
     ensures { result ≡ form_reads op (trees_of args.now) (trees_of body.now) }
 {
@@ -165,6 +167,16 @@ fn reads_of(op: Op, args: &[Node], body: &[Node]) -> Reads
     }
 }
 
+// Whether a constant is among the operands of an operator.
+fn has_constants(op: Plain) -> bool
+    ensures { result ≡ list_any is_raw (row_of op).operands }
+{
+    matches!(
+        op,
+        Plain::Data(DataOp::Match) | Plain::Event(EventOp::Acquire | EventOp::Fatal)
+    )
+}
+
 fn letter_at(letters: &[Letter], index: usize) -> Option<Letter>
     ensures { result ≡ slice_get letters.now index }
 {
@@ -180,58 +192,84 @@ fn is_constant(letter: Option<Letter>) -> bool
     )
 }
 
+// Marks the Locals that a form names.
 #[cycle(named)]
-fn named_in_form(op: Op, args: &[Node], body: &[Node], found: Locals) -> Locals
-    ensures { result.named ≡ marked_all found.named (form_locals (form_reads op (trees_of args.now) (trees_of body.now)) (trees_of args.now)
-        (trees_of body.now)) }
+fn mark_form(found: &mut Locals, op: Op, args: &[Node], body: &[Node])
+    ensures { found.new.named ≡ marked_all found.old.named (form_locals (form_reads op (trees_of args.now) (trees_of body.now))
+        (trees_of args.now) (trees_of body.now)) }
 {
     match reads_of(op, args, body) {
-        Reads::Nothing => found,
-        Reads::Arguments => named_in_all(args, &[], found),
-        Reads::Operands(op) => named_in_all(args, letters(op), found),
-        Reads::All => named_in_all(body, &[], named_in_all(args, &[], found)),
+        Reads::Nothing => (),
+        Reads::Arguments => mark_all(found, args),
+        Reads::Operands(op) => mark_operands(found, op, args),
+        Reads::All => {
+            mark_all(found, args);
+            mark_all(found, body);
+        }
     }
 }
 
 #[cycle(named)]
-fn named_in_node(node: &Node, found: Locals) -> Locals
-    ensures { result.named ≡ marked_all found.named (locals (node_tree node.now)) }
+#[inline(always)]
+fn mark_node(found: &mut Locals, node: &Node)
+    ensures { found.new.named ≡ marked_all found.old.named (locals (node_tree node.now)) }
 {
     match &node.term {
-        Term::Local(index) => found.with(*index),
-        Term::Call { path: _, args } => named_in_all(args, &[], found),
-        Term::Form { op, args, body } => named_in_form(*op, args, body, found),
-        _ => found,
+        Term::Local(index) => found.mark(*index),
+        Term::Call { path: _, args } => mark_all(found, args),
+        Term::Form { op, args, body } => mark_form(found, *op, args, body),
+        _ => (),
+    }
+}
+
+// Marks the Locals that the terms of a list name.
+#[cycle(named)]
+fn mark_all(found: &mut Locals, nodes: &[Node])
+    ensures { found.new.named ≡ marked_all found.old.named (locals_all (trees_of nodes.now)) }
+{
+    for node in nodes {
+        mark_node(found, node);
+    }
+}
+
+// Marks the Locals that the arguments of an operator name, but for the constants among them, which few operators have.
+#[cycle(named)]
+fn mark_operands(found: &mut Locals, op: Plain, args: &[Node])
+    ensures { found.new.named ≡ marked_all found.old.named (operand_locals (row_of op).operands (trees_of args.now)) }
+{
+    if has_constants(op) {
+        mark_variables(found, letters(op), args);
+    } else {
+        mark_all(found, args);
     }
 }
 
 // A constant names no Local.
 #[cycle(named)]
-fn named_in_operand(node: &Node, letter: Option<Letter>, found: Locals) -> Locals
-    ensures { result.named ≡ marked_all found.named (letter_names (constant_letter letter) (node_tree node.now)) }
+fn mark_operand(found: &mut Locals, letter: Option<Letter>, node: &Node)
+    ensures { found.new.named ≡ marked_all found.old.named (letter_names (constant_letter letter) (node_tree node.now)) }
 {
-    if is_constant(letter) {
-        found
-    } else {
-        named_in_node(node, found)
+    if !is_constant(letter) {
+        mark_node(found, node);
     }
 }
 
-// The Locals that are found, and those that nodes name but for the constants among them.
+// Marks the Locals that arguments name but for the constants among them.
 #[cycle(named)]
-fn named_in_all(nodes: &[Node], letters: &[Letter], found: Locals) -> Locals
-    ensures { result.named ≡ marked_all found.named (operand_locals (letters_as letters.now) (trees_of nodes.now)) }
+#[inline(never)]
+fn mark_variables(found: &mut Locals, letters: &[Letter], nodes: &[Node])
+    ensures { found.new.named ≡ marked_all found.old.named (operand_locals (letters_as letters.now) (trees_of nodes.now)) }
 {
-    let mut found = found;
     for (index, node) in nodes.iter().enumerate() {
-        found = named_in_operand(node, letter_at(letters, index), found);
+        mark_operand(found, letter_at(letters, index), node);
     }
-    found
 }
 
 /// The Locals that the terms of a list name.
 pub fn named_in(nodes: &[Node]) -> Locals
     ensures { result.named ≡ marked_all none_named (locals_all (trees_of nodes.now)) }
 {
-    named_in_all(nodes, &[], Locals::none())
+    let mut found = Locals::none();
+    mark_all(&mut found, nodes);
+    found
 }

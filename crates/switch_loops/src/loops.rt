@@ -261,6 +261,7 @@ fn put(
 
 // Puts the loop of a Switch before terms that stand backwards.
 #[cycle(loops)]
+#[inline(never)]
 fn put_switch(
     alloc: Global,
     flag: u8,

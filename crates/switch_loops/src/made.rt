@@ -325,6 +325,7 @@ pub(crate) fn put_turn(
 }
 
 /// Puts what stands for a Continue before terms that stand backwards.
+#[inline(never)]
 pub(crate) fn put_continue(
     alloc: Global,
     origin: Origin,

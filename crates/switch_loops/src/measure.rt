@@ -64,6 +64,7 @@ fn around(kind: TermRole, inner: Measure) -> Measure
 
 // The measure of a term by what stands in its braces, which only some kinds ask for.
 #[cycle(measure)]
+#[inline(always)]
 fn measure_within(kind: TermRole, body: &[Node]) -> Measure
     ensures { result ≡ measure_around kind (measured (trees_of body.now)) }
 {
@@ -85,6 +86,7 @@ fn measure_node(node: &Node) -> Measure
 
 /// What is measured of the terms of a list.
 #[cycle(measure)]
+#[inline(never)]
 pub(crate) fn measure_all(nodes: &[Node]) -> Measure
     ensures { result ≡ measured (trees_of nodes.now) }
 {

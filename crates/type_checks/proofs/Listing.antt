@@ -1,6 +1,6 @@
 -- Lists and sizes.
 use Rattle.std.proofs.Common.{◌≡◌, ℕ, suc, ◌+◌, ◌<◌, ◌≤◌, List, [], ◌∷◌, ◌++◌, length, get_or, drop, append_assoc, append-nil, Vec, Global, Option, Some, None, Err, refl, sym, ap, ◌∙◌, arith}
-use Rattle.std.specs.Prelude.{slice_get, unwrap_or}
+use Rattle.std.specs.Prelude.{slice_get, unwrap_or, false, Ok, Result}
 use Rattle.iasl_messages.specs.declared.message.Message.{Message}
 use Rattle.iasl_messages.specs.declared.place.Place.{Place}
 use Rattle.acpi_values.specs.declared.width.Width.{Width}
@@ -12,7 +12,7 @@ use Rattle.asl_tree.specs.declared.term.Node.{Node}
 use Rattle.asl_tree.specs.declared.term.Term.{Term}
 use Rattle.asl_tree.specs.declared.term.Term as D
 use Rattle.asl_shape.specs.Plans.{plan_of, plans_of, plan_at, how_many, constant_of}
-use Rattle.type_checks.specs.Sizes.{bytes_alone, byte_count, size_errors, term_errors, long_lists}
+use Rattle.type_checks.specs.Sizes.{bytes_alone, byte_count, is_below, size_errors, term_errors, long_lists}
 use Rattle.asl_shape.proofs.Plans.{plan_form, plan_call}
 use Rattle.type_checks.proofs.Terms.{form_is, by_term, of_leaves, plans_at, no_more}
 
@@ -57,6 +57,11 @@ no_bytes_alone t not_text not_fill =
     by_term (λ u. bytes_alone (plan_of u) ≡ None) t (λ n e. refl) (λ s e. absurd (not_text s e)) (λ s named e. absurd (not_fill s named e)) (λ w e. refl) (λ n e. refl) (λ n e. refl) (λ e. refl) (λ e. refl) (λ p e. refl)
     (λ s n e. refl) (λ n e. refl) (λ n e. refl) (λ a b c e. refl) (λ p v e. ap bytes_alone (plan_call p v)) (λ o v w e. ap bytes_alone (plan_form o v w))
 
+-- what lists nothing is not too long
+pub below_none : (size : Result ℕ NoConstant) → is_below size None ≡ false
+below_none (Ok n) = refl
+below_none (Err e) = refl
+
 -- ---- nodes one after another
 
 module _ (width : Width) where
@@ -77,6 +82,12 @@ module _ (width : Width) where
 
   pub all_listed : (ns : List Node) (i : ℕ) (initial now : List Message) → length ns ≤ i → Left ns i initial now → now ≡ initial ++ long_lists width (plans_of ns)
   all_listed ns i initial now le before = sym (append-nil now) ∙ ap (λ ps. now ++ long_lists width ps) (sym (no_more ns i le)) ∙ before
+
+  -- nothing is told of no nodes
+  pub none_listed : (ns : List Node) (ms : List Message) → length ns ≡ 0 → ms ≡ ms ++ long_lists width (plans_of ns)
+  unfolding plans_of
+  none_listed [] ms e = sym (append-nil ms)
+  none_listed (n ∷ ns) ms e = absurd (omega (arith, e))
 
   pub none_long : (place : Place) (t : Term) → ((p : Path) (v : Vec Node Global) → t ≡ D.Call p v → ⊥) → ((o : Op) (v w : Vec Node Global) → t ≡ D.Form o v w → ⊥) → term_errors width place (plan_of t) ≡ []
   none_long place =

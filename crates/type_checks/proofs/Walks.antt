@@ -1,5 +1,5 @@
 -- The errors of arguments one after another.
-use Rattle.std.proofs.Common.{◌≡◌, ℕ, suc, ◌+◌, ◌<◌, ◌≤◌, List, [], ◌++◌, length, get_or, drop, append_assoc, append-nil, Vec, Global, Option, Some, None, refl, sym, ap, ◌∙◌, subst, arith}
+use Rattle.std.proofs.Common.{◌≡◌, ℕ, suc, ◌+◌, ◌<◌, ◌≤◌, List, [], ◌∷◌, ◌++◌, length, get_or, drop, append_assoc, append-nil, Vec, Global, Option, Some, None, refl, sym, ap, ◌∙◌, subst, arith}
 use Rattle.iasl_messages.specs.declared.message.Message.{Message}
 use Rattle.asl_tree.specs.declared.path.Path.{Path}
 use Rattle.asl_tree.specs.declared.term.Op.{Op}
@@ -53,11 +53,22 @@ module _ (names : ℕ → Named) (asker : Option Op) (ns : List Node) (first : �
   all_checked at next now le before =
       sym (append-nil now) ∙ ap (λ ps. now ++ errors_of names asker at next ps) (sym (no_more ns at le)) ∙ before.told
 
+pub none_there : (ns : List Node) → length ns ≡ 0 → nodes (plans_of ns) ≡ 0
+unfolding plans_of
+none_there [] e = refl
+none_there (n ∷ ns) e = absurd (omega (arith, e))
+
 module _ (names : ℕ → Named) where
   -- nothing is wrong inside a leaf
   pub none_wrong : (node : ℕ) (t : Term) → ((p : Path) (v : Vec Node Global) → t ≡ D.Call p v → ⊥) → ((o : Op) (v w : Vec Node Global) → t ≡ D.Form o v w → ⊥) → errors_inside names node (plan_of t) ≡ []
   none_wrong node =
       of_leaves (λ p. errors_inside names node p ≡ []) (λ n. refl) (λ s. refl) (λ s named. refl) (λ w. refl) (λ n. refl) (λ n. refl) refl refl (λ p. refl) (λ s n. refl) (λ n. refl) (λ n. refl) (λ a b c. refl)
+
+  -- nothing is told of no nodes, which are none
+  pub none_behind : (asker : Option Op) (at node : ℕ) (ns : List Node) (ms : List Message) → length ns ≡ 0 → ms ≡ ms ++ errors_of names asker at node (plans_of ns)
+  unfolding plans_of
+  none_behind asker at node [] ms e = sym (append-nil ms)
+  none_behind asker at node (n ∷ ns) ms e = absurd (omega (arith, e))
 
   -- the messages of a form: those of its arguments, and then those of its body
   pub form_told : (first middle : ℕ) (t : Term) (op : Op) (args body : Vec Node Global) (xs ys : List Node) (old own new : List Message)

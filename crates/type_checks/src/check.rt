@@ -1,5 +1,5 @@
 //! Arguments of a wrong kind.
-ghost use Rattle.std.specs.Prelude.{◌≡◌, ◌+◌, ◌^◌, ◌<◌, ◌≤◌, ◌++◌, ℕ, suc, length, get_or, IfOk, IfErr, OnOk, true};
+ghost use Rattle.std.specs.Prelude.{◌≡◌, ◌+◌, ◌^◌, ◌<◌, ◌≤◌, ◌++◌, ℕ, suc, length, get_or, IfOk, IfErr, OnOk, false, true};
 ghost use Rattle.asl_tree.specs.View.{trees_of};
 ghost use Rattle.acpi_names.specs.Terms.{are_terms};
 ghost use Rattle.asl_shape.specs.Plans.{plan_of, plans_of};
@@ -98,6 +98,7 @@ fn leaf_kinds(in_place: bool, object: Named, term: &Term) -> &'static [ValueKind
 
 // Whether the expression at a node has a kind that is wanted.
 #[cycle(fitting)]
+#[inline(always)]
 fn fits(
     names: &[Named],
     wants: Wanted,
@@ -119,6 +120,7 @@ fn fits(
 
 // Whether a form gives a kind that is wanted; its first argument stands at a node.
 #[cycle(fitting)]
+#[inline(never)]
 fn form_fits(
     names: &[Named],
     wants: Wanted,
@@ -156,6 +158,19 @@ fn argument_fits(
     Ok(fits(names, wants, false, node, &args[place].term)?)
 }
 
+// A message at an argument.
+#[inline(never)]
+fn tell(alloc: Global, out: &mut Messages, place: Place) -> Result<(), AllocError>
+    ensures { OnOk result (out.new ≡ out.old ++ spec.unless false place) }
+{
+    out.push(Message {
+        number: WRONG_TYPE,
+        place,
+        name: Text::new(alloc),
+    })?;
+    Ok(())
+}
+
 // A message at an argument, unless it fits.
 fn tell_unless(
     alloc: Global,
@@ -168,11 +183,7 @@ fn tell_unless(
     if fits {
         return Ok(());
     }
-    out.push(Message {
-        number: WRONG_TYPE,
-        place,
-        name: Text::new(alloc),
-    })?;
+    tell(alloc, out, place)?;
     Ok(())
 }
 
@@ -218,6 +229,9 @@ fn errors_inside(
         }
         Term::Form { op, args, body } => {
             let next = errors_of(alloc, out, names, Some(*op), first, args)?;
+            if body.is_empty() {
+                return Ok(next);
+            }
             let next = errors_of(alloc, out, names, None, next, body)?;
             Ok(next)
         }

@@ -1,5 +1,5 @@
 //! Lists that are longer than their sizes.
-ghost use Rattle.std.specs.Prelude.{◌≡◌, ◌++◌, IfOk, OnOk, slice_get, unwrap_or};
+ghost use Rattle.std.specs.Prelude.{◌≡◌, ◌++◌, Some, IfOk, OnOk, slice_get, unwrap_or};
 ghost use Rattle.std.specs.Option.{option_copied};
 ghost use Rattle.asl_shape.specs.Plans.{how_many, plan_at, plan_of, plans_of, constant_of};
 ghost use Rattle.type_checks.specs.Sizes as spec;
@@ -110,7 +110,25 @@ fn tell_if(alloc: Global, out: &mut Messages, wrong: bool, place: Place) -> Resu
     Ok(())
 }
 
-// The error of a form itself.
+// The error of a list of so many bytes or elements.
+#[inline(never)]
+fn list_errors(
+    alloc: Global,
+    width: Width,
+    out: &mut Messages,
+    place: Place,
+    args: &[Node],
+    count: usize,
+) -> Result<(), AllocError>
+    ensures { OnOk result
+        (out.new ≡ out.old ++ spec.told (spec.is_below (constant_of width (plan_at (plans_of args.now) 0)) (Some count)) place) }
+{
+    let wrong = is_below(size_of(width, args), Some(count));
+    tell_if(alloc, out, wrong, place)?;
+    Ok(())
+}
+
+// The error of a form itself, which is one only of what lists something.
 fn size_errors(
     alloc: Global,
     width: Width,
@@ -122,9 +140,13 @@ fn size_errors(
 ) -> Result<(), AllocError>
     ensures { OnOk result (out.new ≡ out.old ++ spec.size_errors width place op (plans_of args.now) (plans_of body.now)) }
 {
-    let wrong = is_below(size_of(width, args), list_length(op, body));
-    tell_if(alloc, out, wrong, place)?;
-    Ok(())
+    match list_length(op, body) {
+        Some(count) => {
+            list_errors(alloc, width, out, place, args, count)?;
+            Ok(())
+        }
+        None => Ok(()),
+    }
 }
 
 // The errors of a term: its own, then those of its arguments, then those of its body.
@@ -145,6 +167,9 @@ fn term_errors(
         Term::Form { op, args, body } => {
             size_errors(alloc, width, out, node.place, *op, args, body)?;
             all_errors(alloc, width, out, args)?;
+            if body.is_empty() {
+                return Ok(());
+            }
             all_errors(alloc, width, out, body)?;
             Ok(())
         }

@@ -1,7 +1,4 @@
 use Rattle.std.proofs.Common.{Vec, Global, refl, sym, ap, ◌∙◌, arith}
-use Rattle.acpi_values.specs.declared.operator.DataOp.TheVariants as DataOp
-use Rattle.acpi_values.specs.declared.operator.Plain.TheVariants as P
-use Rattle.asl_tree.specs.Tree.{Apply, Integer, no_trees, tree}
 use Rattle.asl_tree.specs.View.{trees_of}
 use Rattle.asl_tree.specs.declared.term.Node.{Node}
 use Rattle.asl_tree.specs.declared.term.Term as D
@@ -12,11 +9,10 @@ use Rattle.asl_lower.proofs.Turns.{turns_none, turns_next, turn_smaller, front_o
 use Rattle.term_places.specs.Places.{places_of}
 use Rattle.asl_fold.specs.declared.fate.Fate.TheVariants as F
 use Rattle.asl_fold.specs.declared.part.Listing.{Listing}
-use Rattle.asl_fold.specs.Folds.{last_of}
 use Rattle.asl_fold.specs.Nodes.{part_in, folded_by}
 use Rattle.asl_fold.proofs.Nodes.{IsFolded, all_folded, leaf_folded, others_folded, other_folded, call_folded, kept_folded, plain_folded, stays_folded}
-use Rattle.asl_fold.proofs.Stored.{number_is}
-use Rattle.asl_fold.proofs.Places.{number_inside, plain_places, form_kept, call_kept}
+use Rattle.asl_fold.proofs.Stored.{number_is, put_is}
+use Rattle.asl_fold.proofs.Places.{number_inside, put_places, plain_places, form_kept, call_kept}
 use Rattle.asl_fold.proofs.fold.+fold.Goals as goal
 
 -- ---- the members of a list
@@ -102,23 +98,27 @@ fold_node-returns-in-Stays-clause-places t c =
 pub fold_node-returns-in-Becomes-clause-tree : goal.fold_node-returns-in-Becomes-clause-tree
 fold_node-returns-in-Becomes-clause-tree t c =
     let is = form_is c.args.node.now.term c.in-Form.op _ c.in-Form.args _ c.in-Form.body _ c.in-Form.op-is c.in-Form.args-is c.in-Form.body-is c.in-Form.is in
-    plain_folded c.args.width c.args.statement (at_of c.args.node.now) c.args.node.now.term _ _ c.in-Plain.plain _ _ c.fold_nodes-in-Form.new.nodes c.fold_nodes-in-Form-2.new.nodes c.listing_of.result c.deref.result.now c.deref-in-Plain.result.now (F.Becomes c.in-Becomes.value) is c.in-Plain.is
+    put_is c.args.node.now c.put_term.new.node (D.Integer c.in-Becomes.value) c.put_term.ensures
+    ∙ plain_folded c.args.width c.args.statement (at_of c.args.node.now) c.args.node.now.term _ _ c.in-Plain.plain _ _ c.fold_nodes-in-Form.new.nodes c.fold_nodes-in-Form-2.new.nodes c.listing_of.result c.deref.result.now c.deref-in-Plain.result.now (F.Becomes c.in-Becomes.value) is c.in-Plain.is
     c.in_ok-fold_nodes-in-Form.ensures.trees c.listing_of.ensures c.in_ok-fold_nodes-in-Form-2.ensures.trees c.deref.ensures.value c.deref-in-Plain.ensures.value c.in-Becomes.ensures (number_is (at_of c.args.node.now) c.in-Becomes.value)
 
 pub fold_node-returns-in-Becomes-clause-places : goal.fold_node-returns-in-Becomes-clause-places
 fold_node-returns-in-Becomes-clause-places t c =
-    let is = form_is c.args.node.now.term c.in-Form.op _ c.in-Form.args _ c.in-Form.body _ c.in-Form.op-is c.in-Form.args-is c.in-Form.body-is c.in-Form.is in plain_places c.args.node.now.place c.args.node.now.term _ _ c.in-Plain.plain _ _ is c.in-Plain.is (number_inside c.in-Becomes.value)
-
-pub fold_node-returns-in_ok-node-in-Stores-clause-tree : goal.fold_node-returns-in_ok-node-in-Stores-clause-tree
-fold_node-returns-in_ok-node-in-Stores-clause-tree t c =
     let is = form_is c.args.node.now.term c.in-Form.op _ c.in-Form.args _ c.in-Form.body _ c.in-Form.op-is c.in-Form.args-is c.in-Form.body-is c.in-Form.is in
-    plain_folded c.args.width c.args.statement (at_of c.args.node.now) c.args.node.now.term _ _ c.in-Plain.plain _ _ c.fold_nodes-in-Form.new.nodes c.fold_nodes-in-Form-2.new.nodes c.listing_of.result c.deref.result.now c.deref-in-Plain.result.now (F.Stores c.in-Stores.value) is c.in-Plain.is
-    c.in_ok-fold_nodes-in-Form.ensures.trees c.listing_of.ensures c.in_ok-fold_nodes-in-Form-2.ensures.trees c.deref.ensures.value c.deref-in-Plain.ensures.value c.in-Stores.ensures
-    (c.in_ok-node-in-Stores.ensures.tree (at_of c.args.node.now) ∙ ap (λ (v : Vec Node Global). Apply (P.Data DataOp.Store) (tree (Integer c.in-Stores.value) (last_of (trees_of v.items))) no_trees) c.replace-taken.ensures.value)
+    put_places c.args.node.now c.put_term.new.node (D.Integer c.in-Becomes.value) c.put_term.ensures ∙ plain_places c.args.node.now.place c.args.node.now.term _ _ c.in-Plain.plain _ _ is c.in-Plain.is (number_inside c.in-Becomes.value)
 
-pub fold_node-returns-in_ok-node-in-Stores-clause-places : goal.fold_node-returns-in_ok-node-in-Stores-clause-places
-fold_node-returns-in_ok-node-in-Stores-clause-places t c =
-    let is = form_is c.args.node.now.term c.in-Form.op _ c.in-Form.args _ c.in-Form.body _ c.in-Form.op-is c.in-Form.args-is c.in-Form.body-is c.in-Form.is in plain_places c.args.node.now.place c.args.node.now.term _ _ c.in-Plain.plain _ _ is c.in-Plain.is c.in_ok-node-in-Stores.ensures.places
+pub fold_node-returns-in_ok-made-in-Stores-clause-tree : goal.fold_node-returns-in_ok-made-in-Stores-clause-tree
+fold_node-returns-in_ok-made-in-Stores-clause-tree t c =
+    let is = form_is c.args.node.now.term c.in-Form.op _ c.in-Form.args _ c.in-Form.body _ c.in-Form.op-is c.in-Form.args-is c.in-Form.body-is c.in-Form.is in
+    put_is c.args.node.now c.put_term-in-Stores.new.node _ c.put_term-in-Stores.ensures
+    ∙ plain_folded c.args.width c.args.statement (at_of c.args.node.now) c.args.node.now.term _ _ c.in-Plain.plain _ _ c.fold_nodes-in-Form.new.nodes c.fold_nodes-in-Form-2.new.nodes c.listing_of.result c.deref.result.now c.deref-in-Plain.result.now (F.Stores c.in-Stores.value) is c.in-Plain.is
+    c.in_ok-fold_nodes-in-Form.ensures.trees c.listing_of.ensures c.in_ok-fold_nodes-in-Form-2.ensures.trees c.deref.ensures.value c.deref-in-Plain.ensures.value c.in-Stores.ensures
+    (c.in_ok-made-in-Stores.ensures.tree (at_of c.args.node.now))
+
+pub fold_node-returns-in_ok-made-in-Stores-clause-places : goal.fold_node-returns-in_ok-made-in-Stores-clause-places
+fold_node-returns-in_ok-made-in-Stores-clause-places t c =
+    let is = form_is c.args.node.now.term c.in-Form.op _ c.in-Form.args _ c.in-Form.body _ c.in-Form.op-is c.in-Form.args-is c.in-Form.body-is c.in-Form.is in
+    put_places c.args.node.now c.put_term-in-Stores.new.node _ c.put_term-in-Stores.ensures ∙ plain_places c.args.node.now.place c.args.node.now.term _ _ c.in-Plain.plain _ _ is c.in-Plain.is c.in_ok-made-in-Stores.ensures.places
 
 pub fold_node-returns-in_default-op : goal.fold_node-returns-in_default-op
 fold_node-returns-in_default-op t c =

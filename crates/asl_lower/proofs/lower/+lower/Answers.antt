@@ -107,7 +107,7 @@ pub lower_operator-returns-clause-tree : goal.lower_operator-returns-clause-tree
 lower_operator-returns-clause-tree t c at =
     let holds : c.fit.result ≡ true = grind (arith, c.if-not-fit.false) in
     let fitting : fits (row_of c.args.op).operands (trees_of c.args.args.now.items) ≡ true = sym (ap (λ ns. fits (row_of c.args.op).operands (trees_of ns)) c.deref.ensures.value) ∙ sym c.fit.ensures ∙ holds in
-    operator_lowered at c.args.op (trees_of c.args.args.now.items) (trees_of c.lower_each.new.nodes.items) (trees_of c.put_targets.new.args.items) (record { id = c.args.id; place = c.args.place; term = D.Omitted }) fitting c.in_ok-lower_each.ensures.trees refl c.in_ok-put_targets.ensures
+    operator_lowered at c.args.op (trees_of c.args.args.now.items) (trees_of c.lower_each.new.nodes.items) (trees_of c.put_omitted.new.args.items) fitting c.in_ok-lower_each.ensures.trees c.in_ok-put_omitted.ensures
 
 -- ---- assignments
 

@@ -1,11 +1,11 @@
-use Rattle.std.proofs.Common.{◌≡◌, ◌+◌, ◌^◌, ◌<◌, ◌≤◌, suc, get_or, Vec, Global, refl, sym, ap, ◌∙◌, arith}
+use Rattle.std.proofs.Common.{◌≡◌, ◌+◌, ◌^◌, ◌<◌, ◌≤◌, length, suc, get_or, Vec, Global, refl, sym, ap, ◌∙◌, arith}
 use Rattle.asl_tree.specs.declared.term.Node.{Node}
 use Rattle.asl_tree.specs.declared.term.Term as D
 use Rattle.asl_tree.specs.declared.term.Term.TheVariants as V
 use Rattle.asl_tree.specs.View.{trees_of}
 use Rattle.asl_shape.specs.Plans.{plan_of, plans_of}
 use Rattle.asl_numbers.specs.Numbers.{inside, nodes, numbered_all}
-use Rattle.asl_numbers.proofs.Loops.{none_numbered, inside_smaller, all_numbered, all_counted, node_numbered, front_only, needed, where_none}
+use Rattle.asl_numbers.proofs.Loops.{none_numbered, inside_smaller, none_counted, none_trees, all_numbered, all_counted, node_numbered, front_only, needed, where_none}
 use Rattle.asl_numbers.proofs.Trees.{none_inside, alone_numbered, call_inside, call_numbered, call_plan, form_inside, form_numbered, form_plan}
 use Rattle.asl_numbers.proofs.number.+number.Goals as goal
 
@@ -48,6 +48,19 @@ number_nodes-returns-clause-plans t c =
     ap plans_of (front_only c.loop-node.node-items _ c.args.nodes.now.len (omega (arith, c.deref_mut-node-items.ensures.len, c.loop-node.auto.node-items)))
     ∙ c.loop-node.invariant.plans ∙ ap plans_of c.deref_mut-node-items.ensures.value
 
+-- ---- what stands in braces
+
+pub number_within-number_nodes-requires : goal.number_within-number_nodes-requires
+number_within-number_nodes-requires t c = omega (arith, c.decreases)
+
+pub number_within-returns-then-is_empty-clause-next : goal.number_within-returns-then-is_empty-clause-next
+number_within-returns-then-is_empty-clause-next t c =
+    let none : length c.args.body.now.items ≡ 0 = grind (arith, c.is_empty.ensures, c.if-is_empty.true) in omega (arith, none_counted c.args.body.now.items none)
+
+pub number_within-returns-then-is_empty-clause-trees : goal.number_within-returns-then-is_empty-clause-trees
+number_within-returns-then-is_empty-clause-trees t c =
+    let none : length c.args.body.now.items ≡ 0 = grind (arith, c.is_empty.ensures, c.if-is_empty.true) in none_trees c.args.first c.args.body.now.items none
+
 -- ---- a node
 
 pub number_node-number_nodes-requires : goal.number_node-number_nodes-requires
@@ -58,8 +71,8 @@ pub number_node-number_nodes-requires-in-Form : goal.number_node-number_nodes-re
 number_node-number_nodes-requires-in-Form t c =
     let size = form_inside c.args.node.now.term c.in-Form.op _ _ c.in-Form.is in omega (arith, c.decreases, size, ap (λ (v : Vec Node Global). nodes (plans_of v.items)) c.in-Form.args-is)
 
-pub number_node-number_nodes-requires-in-Form-2 : goal.number_node-number_nodes-requires-in-Form-2
-number_node-number_nodes-requires-in-Form-2 t c =
+pub number_node-number_within-requires : goal.number_node-number_within-requires
+number_node-number_within-requires t c =
     let size = form_inside c.args.node.now.term c.in-Form.op _ _ c.in-Form.is in omega (arith, c.decreases, size, ap (λ (v : Vec Node Global). nodes (plans_of v.items)) c.in-Form.body-is)
 
 -- ---- a call
@@ -115,7 +128,7 @@ number_node-returns-in_ok-next-in-Form-2-clause-tree t c at =
     omega (arith, first, ap (λ (v : Vec Node Global). nodes (plans_of v.items)) c.in-Form.args-is, c.in_ok-next-in-Form.ensures.next) in
     let rolled = V.rolls-Form c.in-Form.op c.in-Form.args c.in-Form.body in
     rw (c.in-Form.is ∙ sym rolled, D.out-roll-Term (D.Term-F.Form c.in-Form.op c.in-Form.args c.in-Form.body), rolled)
-    (form_numbered at (suc c.args.number) c.in_ok-next-in-Form.next (D.Form c.in-Form.op c.in-Form.args c.in-Form.body) c.in-Form.op c.in-Form.args c.in-Form.body c.number_nodes-in-Form.new.nodes c.number_nodes-in-Form-2.new.nodes refl
+    (form_numbered at (suc c.args.number) c.in_ok-next-in-Form.next (D.Form c.in-Form.op c.in-Form.args c.in-Form.body) c.in-Form.op c.in-Form.args c.in-Form.body c.number_nodes-in-Form.new.nodes c.number_within.new.body refl
     (c.in_ok-next-in-Form.ensures.trees ∙ ap (λ (v : Vec Node Global). numbered_all c.in_ok-first.first (plans_of v.items)) c.in-Form.args-is ∙ ap (λ n. numbered_all n (plans_of c.in-Form.args.items)) first) next
     (c.in_ok-next-in-Form-2.ensures.trees ∙ ap (λ (v : Vec Node Global). numbered_all c.in_ok-next-in-Form.next (plans_of v.items)) c.in-Form.body-is))
 
@@ -123,7 +136,7 @@ pub number_node-returns-in_ok-next-in-Form-2-clause-plan : goal.number_node-retu
 number_node-returns-in_ok-next-in-Form-2-clause-plan t c =
     let rolled = V.rolls-Form c.in-Form.op c.in-Form.args c.in-Form.body in
     rw (c.in-Form.is ∙ sym rolled, D.out-roll-Term (D.Term-F.Form c.in-Form.op c.in-Form.args c.in-Form.body), rolled)
-    (form_plan (D.Form c.in-Form.op c.in-Form.args c.in-Form.body) c.in-Form.op c.in-Form.args c.in-Form.body c.number_nodes-in-Form.new.nodes c.number_nodes-in-Form-2.new.nodes refl
+    (form_plan (D.Form c.in-Form.op c.in-Form.args c.in-Form.body) c.in-Form.op c.in-Form.args c.in-Form.body c.number_nodes-in-Form.new.nodes c.number_within.new.body refl
     (c.in_ok-next-in-Form.ensures.plans ∙ ap (λ (v : Vec Node Global). plans_of v.items) c.in-Form.args-is)
     (c.in_ok-next-in-Form-2.ensures.plans ∙ ap (λ (v : Vec Node Global). plans_of v.items) c.in-Form.body-is))
 

@@ -1,16 +1,19 @@
 use Rattle.std.proofs.Common.{◌≡◌, [], get_or, Vec, Global, None, refl, sym, ap, ◌∙◌, arith, rules}
 use Rattle.std.specs.Prelude.{nat_eq, unwrap_or}
 use Rattle.asl_tree.specs.declared.term.Node.{Node}
+use Rattle.asl_tree.specs.declared.term.Term as D
+use Rattle.asl_tree.specs.declared.term.Term.TheVariants as V
 use Rattle.asl_tree.specs.View.{trees_of}
 use Rattle.asl_meaning.specs.Declarations.{is_named, written_external}
 use Rattle.acpi_names.specs.Paths.{is_named_in}
 use Rattle.acpi_names.specs.Parts.{part_of, path_of}
+use Rattle.acpi_names.specs.Shortest.{spelled_use}
 use Rattle.acpi_names.specs.Spelled.{spelled, spelled_all, spelled_elements, element_spelled}
 use Rattle.name_spelling.specs.Spelling.{other_spelled, spelled_but, value_args, value_body, part_args, part_body, opened_at, opened_body, place_at}
 use Rattle.acpi_names.specs.Walked.{node_tree, value_form_of}
 use Rattle.acpi_names.proofs.Folds.{at_of}
 use Rattle.name_spelling.proofs.Spelling.{spelled_use_same, spelled_item_same, opened_same}
-use Rattle.name_spelling.proofs.SpelledNodes.{arity_written, name_spelled, name_kept, element_named, element_kept, call_spelled, form_spelled, another_spelled, element_unnamed, another, call_is, form_is}
+use Rattle.name_spelling.proofs.SpelledNodes.{arity_written, name_spelled, element_named, element_kept, call_spelled, form_spelled, another_spelled, element_unnamed, another, unnamed_is, call_is, form_is}
 use Rattle.acpi_names.proofs.Trees.{call_smaller, form_smaller}
 use Rattle.name_spelling.proofs.Turns.{turns_next, turns_whole, turn_smaller, said_before, all_before, known_before, grows_none, grows_then, front_only, mapped_all, mapped_but, mapped_elements}
 use Rattle.term_places.specs.Places.{places_of}
@@ -258,15 +261,27 @@ pub spell_inside-returns-clause-grows : goal.spell_inside-returns-clause-grows
 spell_inside-returns-clause-grows t c =
     grows_then c.args.index.now.paths c.declared_place.new.index.paths c.spell_all.new.index.paths c.args.index.now.named.items c.declared_place.new.index.named.items c.spell_all.new.index.named.items c.args.calls.now c.args.also.now c.in_ok-inner.ensures.grows c.in_ok-spell_all.ensures.grows
 
-pub spell_one-returns-in-None-clause-spells : goal.spell_one-returns-in-None-clause-spells
-spell_one-returns-in-None-clause-spells t c d counts beside agrees tabled met =
-    name_kept c.args.shorten beside (is_named d) (written_external counts) (at_of c.args.node.now) (get_or c.args.index.now.paths c.args.scope []) c.args.node.now.term c.in-Name.path c.in-Name.is
-    (sym (ap (λ o. unwrap_or o c.in-Name.path) c.in-None.is) ∙ c.in_ok-other-in-Name.ensures ∙ spelled_use_same (is_named_in c.args.index.now.paths c.args.also.now) beside (is_named_in c.args.index.now.paths c.args.index.now.named.items) (is_named d) met agrees c.args.shorten c.in-Name.path (get_or c.args.index.now.paths c.args.scope []))
+pub spell_one-returns-in_ok-spell_name-in-Name-clause-spells : goal.spell_one-returns-in_ok-spell_name-in-Name-clause-spells
+spell_one-returns-in_ok-spell_name-in-Name-clause-spells t c d counts beside agrees tabled met =
+    let scope = get_or c.args.index.now.paths c.args.scope [] in
+    let met_there = is_named_in c.args.index.now.paths c.args.also.now in
+    let named_there = is_named_in c.args.index.now.paths c.args.index.now.named.items in
+    let rolled = V.rolls-Name c.in-Name.path in
+    rw (c.in-Name.is ∙ sym rolled, D.out-roll-Term (D.Term-F.Name c.in-Name.path), rolled)
+    (name_spelled c.args.shorten beside (is_named d) (written_external counts) (at_of c.args.node.now) scope (D.Name c.in-Name.path) c.in-Name.path c.spell_name.new.name refl
+    (c.in_ok-spell_name-in-Name.ensures ∙ ap (λ p. spelled_use met_there named_there c.args.shorten p scope) c.in-Name.path-is ∙ spelled_use_same met_there beside named_there (is_named d) met agrees c.args.shorten c.in-Name.path scope))
 
-pub spell_one-returns-in-Some-clause-spells : goal.spell_one-returns-in-Some-clause-spells
-spell_one-returns-in-Some-clause-spells t c d counts beside agrees tabled met =
-    name_spelled c.args.shorten beside (is_named d) (written_external counts) (at_of c.args.node.now) (get_or c.args.index.now.paths c.args.scope []) c.args.node.now.term c.in-Name.path c.in-Some.other c.in-Name.is
-    (sym (ap (λ o. unwrap_or o c.in-Name.path) c.in-Some.is) ∙ c.in_ok-other-in-Name.ensures ∙ spelled_use_same (is_named_in c.args.index.now.paths c.args.also.now) beside (is_named_in c.args.index.now.paths c.args.index.now.named.items) (is_named d) met agrees c.args.shorten c.in-Name.path (get_or c.args.index.now.paths c.args.scope []))
+pub spell_one-returns-in_ok-spell_name-in-Name-clause-grows : goal.spell_one-returns-in_ok-spell_name-in-Name-clause-grows
+spell_one-returns-in_ok-spell_name-in-Name-clause-grows t c = grows_none c.args.index.now.paths c.args.index.now.named.items c.args.calls.now c.args.also.now c.requires.all
+
+pub spell_one-returns-in_default : goal.spell_one-returns-in_default
+spell_one-returns-in_default t c =
+    let unnamed : path_of c.args.node.now.term ≡ None = unnamed_is c.args.node.now.term c.in_default.not-Name in
+    let shape = another c.args.node.now.term unnamed c.in_default.not-Call c.in_default.not-Form in record {
+      grows = grows_none c.args.index.now.paths c.args.index.now.named.items c.args.calls.now c.args.also.now c.requires.all;
+      spells = λ d counts beside agrees tabled met. another_spelled c.args.shorten beside (is_named d) (written_external counts) (at_of c.args.node.now) (get_or c.args.index.now.paths c.args.scope []) c.args.node.now.term shape;
+      places = refl;
+    }
 
 pub spell_item-returns-in-None-clause-spells : goal.spell_item-returns-in-None-clause-spells
 spell_item-returns-in-None-clause-spells t c d counts beside agrees tabled met =
@@ -291,8 +306,11 @@ spell_elements-returns-clause-places t c =
 pub spell_item-returns-in-Some-clause-places : goal.spell_item-returns-in-Some-clause-places
 spell_item-returns-in-Some-clause-places t c = name_places c.args.node.now.place c.args.node.now.term c.in-Name.path c.in-Some.other c.in-Name.is
 
-pub spell_one-returns-in-Some-clause-places : goal.spell_one-returns-in-Some-clause-places
-spell_one-returns-in-Some-clause-places t c = name_places c.args.node.now.place c.args.node.now.term c.in-Name.path c.in-Some.other c.in-Name.is
+pub spell_one-returns-in_ok-spell_name-in-Name-clause-places : goal.spell_one-returns-in_ok-spell_name-in-Name-clause-places
+spell_one-returns-in_ok-spell_name-in-Name-clause-places t c =
+    let rolled = V.rolls-Name c.in-Name.path in
+    rw (c.in-Name.is ∙ sym rolled, D.out-roll-Term (D.Term-F.Name c.in-Name.path), rolled)
+    (name_places c.args.node.now.place (D.Name c.in-Name.path) c.in-Name.path c.spell_name.new.name refl)
 
 pub spell_inner-returns-in_ok-spell_all-in-Call-clause-places : goal.spell_inner-returns-in_ok-spell_all-in-Call-clause-places
 spell_inner-returns-in_ok-spell_all-in-Call-clause-places t c =

@@ -12,10 +12,10 @@ all_errors-term_errors-requires t c = omega (arith, c.decreases, smaller c.args.
 
 pub all_errors-loop-node-preserved : goal.all_errors-loop-node-preserved
 all_errors-loop-node-preserved t c =
-    next_checked c.args.around c.args.nodes.now c.loop-node.node-index c.node-item.result c.args.out.now c.loop-node.out c.term_errors.new.out c.loop-node-test.true c.node-item.is c.loop-node.invariant c.in_ok-term_errors.ensures
+    next_checked c.args.around.now c.args.nodes.now c.loop-node.node-index c.node-item.result c.args.out.now c.loop-node.out c.term_errors.new.out c.loop-node-test.true c.node-item.is c.loop-node.invariant c.in_ok-term_errors.ensures
 
 pub all_errors-returns : goal.all_errors-returns
-all_errors-returns t c = all_checked c.args.around c.args.nodes.now c.loop-node.node-index c.args.out.now c.loop-node.out c.loop-node-test.false c.loop-node.invariant
+all_errors-returns t c = all_checked c.args.around.now c.args.nodes.now c.loop-node.node-index c.args.out.now c.loop-node.out c.loop-node-test.false c.loop-node.invariant
 
 pub term_errors-all_errors-requires : goal.term_errors-all_errors-requires
 term_errors-all_errors-requires t c = omega (arith, c.decreases, inside_call c.args.node.now.term c.in-Call.path c.in-Call.args c.deref.result.now c.in-Call.is c.deref.ensures.value)
@@ -24,34 +24,34 @@ pub term_errors-all_errors-requires-in-Form : goal.term_errors-all_errors-requir
 term_errors-all_errors-requires-in-Form t c = omega (arith, c.decreases, inside_form c.args.node.now.term c.in-Form.op c.in-Form.args c.in-Form.body c.deref-in-Form.result.now c.in-Form.body.items c.in-Form.is c.deref-in-Form.ensures.value refl)
 
 pub term_errors-all_errors-requires-in-Form-2 : goal.term_errors-all_errors-requires-in-Form-2
-term_errors-all_errors-requires-in-Form-2 t c = omega (arith, c.decreases, inside_form c.args.node.now.term c.in-Form.op c.in-Form.args c.in-Form.body c.in-Form.args.items c.deref-in-Form-2.result.now c.in-Form.is refl c.deref-in-Form-2.ensures.value)
+term_errors-all_errors-requires-in-Form-2 t c = omega (arith, c.decreases, inside_form c.args.node.now.term c.in-Form.op c.in-Form.args c.in-Form.body c.in-Form.args.items c.deref-in-Form-3.result.now c.in-Form.is refl c.deref-in-Form-3.ensures.value)
 
 pub term_errors-returns-in_ok-tell_if-in-Arg : goal.term_errors-returns-in_ok-tell_if-in-Arg
 term_errors-returns-in_ok-tell_if-in-Arg t c =
-    c.in_ok-tell_if-in-Arg.ensures ∙ ap (λ i. c.args.out.now ++ argument_errors c.args.around c.args.node.now.place i) c.from.ensures
-    ∙ ap (λ x. c.args.out.now ++ term_errors c.args.around c.args.node.now.place x) (sym (ap plan_of c.in-Arg.is ∙ arg_term c.in-Arg.index))
+    c.in_ok-tell_if-in-Arg.ensures ∙ ap (λ i. c.args.out.now ++ argument_errors c.args.around.now c.args.node.now.place i) c.from.ensures
+    ∙ ap (λ x. c.args.out.now ++ term_errors c.args.around.now c.args.node.now.place x) (sym (ap plan_of c.in-Arg.is ∙ arg_term c.in-Arg.index))
 
 pub term_errors-returns-in_ok-all_errors-in-Call : goal.term_errors-returns-in_ok-all_errors-in-Call
 term_errors-returns-in_ok-all_errors-in-Call t c =
     c.in_ok-all_errors-in-Call.ensures
-    ∙ ap (λ x. c.args.out.now ++ term_errors c.args.around c.args.node.now.place x) (sym (call_is c.args.node.now.term c.in-Call.path c.in-Call.args c.deref.result.now c.in-Call.is c.deref.ensures.value))
+    ∙ ap (λ x. c.args.out.now ++ term_errors c.args.around.now c.args.node.now.place x) (sym (call_is c.args.node.now.term c.in-Call.path c.in-Call.args c.deref.result.now c.in-Call.is c.deref.ensures.value))
 
 pub term_errors-returns-in_ok-all_errors-in-Form-2 : goal.term_errors-returns-in_ok-all_errors-in-Form-2
 term_errors-returns-in_ok-all_errors-in-Form-2 t c =
-    form_told c.args.around c.around_body.result c.args.node.now.place c.args.node.now.term c.in-Form.op c.in-Form.args c.in-Form.body c.deref-in-Form.result.now c.deref-in-Form-2.result.now c.deref-in-Form-3.result.now
+    form_told c.args.around.now c.around_body-inner.result c.args.node.now.place c.args.node.now.term c.in-Form.op c.in-Form.args c.in-Form.body c.deref-in-Form.result.now c.deref-in-Form-3.result.now c.deref-in-Form-2.result.now
     c.misses_loop-wrong.result c.args.out.now c.tell_if-in-Form.new.out c.all_errors-in-Form.new.out c.all_errors-in-Form-2.new.out
-    c.in-Form.is c.deref-in-Form.ensures.value c.deref-in-Form-2.ensures.value c.deref-in-Form-3.ensures.value c.misses_loop-wrong.ensures c.around_body.ensures
+    c.in-Form.is c.deref-in-Form.ensures.value c.deref-in-Form-3.ensures.value c.deref-in-Form-2.ensures.value c.misses_loop-wrong.ensures c.around_body-inner.ensures
     c.in_ok-tell_if-in-Form.ensures c.in_ok-all_errors-in-Form.ensures c.in_ok-all_errors-in-Form-2.ensures
 
 pub term_errors-returns-then-is_empty : goal.term_errors-returns-then-is_empty
 term_errors-returns-then-is_empty t c =
     let none : length c.in-Form.body.items ≡ 0 = grind (arith, c.is_empty.ensures, c.if-is_empty.true) in
-    let inner = around_body c.in-Form.op (plans_of c.deref-in-Form.result.now) c.args.around in
-    form_told c.args.around inner c.args.node.now.place c.args.node.now.term c.in-Form.op c.in-Form.args c.in-Form.body c.deref-in-Form.result.now c.in-Form.body.items c.deref-in-Form.result.now
+    let inner = around_body c.in-Form.op (plans_of c.deref-in-Form.result.now) c.args.around.now in
+    form_told c.args.around.now inner c.args.node.now.place c.args.node.now.term c.in-Form.op c.in-Form.args c.in-Form.body c.deref-in-Form.result.now c.in-Form.body.items c.deref-in-Form.result.now
     c.misses_loop-wrong.result c.args.out.now c.tell_if-in-Form.new.out c.all_errors-in-Form.new.out c.all_errors-in-Form.new.out
     c.in-Form.is c.deref-in-Form.ensures.value refl c.deref-in-Form.ensures.value c.misses_loop-wrong.ensures refl
     c.in_ok-tell_if-in-Form.ensures c.in_ok-all_errors-in-Form.ensures (none_behind inner c.in-Form.body.items c.all_errors-in-Form.new.out none)
 
 pub term_errors-returns-in_default : goal.term_errors-returns-in_default
 term_errors-returns-in_default t c =
-    sym (append-nil c.args.out.now) ∙ ap (λ ms. c.args.out.now ++ ms) (sym (nothing_wrong c.args.around c.args.node.now.place c.args.node.now.term c.in_default.not-Arg c.in_default.not-Call c.in_default.not-Form))
+    sym (append-nil c.args.out.now) ∙ ap (λ ms. c.args.out.now ++ ms) (sym (nothing_wrong c.args.around.now c.args.node.now.place c.args.node.now.term c.in_default.not-Arg c.in_default.not-Call c.in_default.not-Form))

@@ -1,11 +1,11 @@
-use Rattle.std.proofs.Common.{◌+◌, ◌++◌, sym, ap, ◌∙◌, refl, append-nil, arith}
+use Rattle.std.proofs.Common.{◌≡◌, ◌+◌, ◌++◌, length, None, sym, ap, ◌∙◌, refl, append-nil, arith}
 use Rattle.asl_shape.specs.Plans.{plan_of}
 use Rattle.asl_numbers.specs.Numbers.{inside}
 use Rattle.asl_numbers.proofs.Loops.{smaller}
 use Rattle.type_checks.specs.Names.{listed}
 use Rattle.type_checks.specs.Types.{argument_errors, errors_inside}
 use Rattle.type_checks.proofs.Terms.{call_is, inside_call, inside_form, none_inside}
-use Rattle.type_checks.proofs.Walks.{none_checked, next_checked, all_counted, all_checked, none_wrong, form_told}
+use Rattle.type_checks.proofs.Walks.{none_checked, next_checked, all_counted, all_checked, none_behind, none_there, none_wrong, form_told}
 use Rattle.type_checks.proofs.check.+walk.Goals as goal
 
 pub errors_of-errors_inside-requires : goal.errors_of-errors_inside-requires
@@ -62,3 +62,15 @@ pub errors_inside-returns-in_ok-next-in-Form-2-clause-told : goal.errors_inside-
 errors_inside-returns-in_ok-next-in-Form-2-clause-told t c =
     form_told (listed c.args.names.now) c.args.first _ c.args.term.now c.in-Form.op c.in-Form.args c.in-Form.body c.deref-in-Form.result.now c.deref-in-Form-2.result.now c.args.out.now _ _
     c.in-Form.is c.deref-in-Form.ensures.value c.deref-in-Form-2.ensures.value c.in_ok-next-in-Form.ensures.next c.in_ok-next-in-Form.ensures.told c.in_ok-next-in-Form-2.ensures.told
+
+pub errors_inside-returns-then-is_empty-clause-next : goal.errors_inside-returns-then-is_empty-clause-next
+errors_inside-returns-then-is_empty-clause-next t c =
+    let none : length c.in-Form.body.items ≡ 0 = grind (arith, c.is_empty.ensures, c.if-is_empty.true) in
+    omega (arith, c.in_ok-next-in-Form.ensures.next, none_there c.in-Form.body.items none, inside_form c.args.term.now c.in-Form.op c.in-Form.args c.in-Form.body c.deref-in-Form.result.now c.in-Form.body.items c.in-Form.is c.deref-in-Form.ensures.value refl)
+
+pub errors_inside-returns-then-is_empty-clause-told : goal.errors_inside-returns-then-is_empty-clause-told
+errors_inside-returns-then-is_empty-clause-told t c =
+    let names = listed c.args.names.now in
+    let none : length c.in-Form.body.items ≡ 0 = grind (arith, c.is_empty.ensures, c.if-is_empty.true) in
+    form_told names c.args.first c.in_ok-next-in-Form.next c.args.term.now c.in-Form.op c.in-Form.args c.in-Form.body c.deref-in-Form.result.now c.in-Form.body.items c.args.out.now _ _
+    c.in-Form.is c.deref-in-Form.ensures.value refl c.in_ok-next-in-Form.ensures.next c.in_ok-next-in-Form.ensures.told (none_behind names None 0 c.in_ok-next-in-Form.next c.in-Form.body.items c.errors_of-in-Form.new.out none)

@@ -1,8 +1,8 @@
-use Rattle.std.proofs.Common.{◌++◌, sym, ap, ◌∙◌, refl, append-nil, arith}
+use Rattle.std.proofs.Common.{◌≡◌, ◌++◌, length, sym, ap, ◌∙◌, refl, append-nil, arith}
 use Rattle.asl_numbers.proofs.Loops.{smaller}
 use Rattle.type_checks.specs.Sizes.{term_errors}
 use Rattle.type_checks.proofs.Terms.{call_is, inside_call, inside_form}
-use Rattle.type_checks.proofs.Listing.{next_listed, all_listed, none_long, form_listed}
+use Rattle.type_checks.proofs.Listing.{next_listed, all_listed, none_listed, none_long, form_listed}
 use Rattle.type_checks.proofs.size.+lists.Goals as goal
 
 pub all_errors-term_errors-requires : goal.all_errors-term_errors-requires
@@ -35,6 +35,14 @@ term_errors-returns-in_ok-all_errors-in-Form-2 t c =
     c.args.out.now c.size_errors.new.out c.all_errors-in-Form.new.out c.all_errors-in-Form-2.new.out
     c.in-Form.is c.deref-in-Form.ensures.value c.deref-in-Form-2.ensures.value c.deref-in-Form-3.ensures.value c.deref-in-Form-4.ensures.value
     c.in_ok-size_errors-in-Form.ensures c.in_ok-all_errors-in-Form.ensures c.in_ok-all_errors-in-Form-2.ensures
+
+pub term_errors-returns-then-is_empty : goal.term_errors-returns-then-is_empty
+term_errors-returns-then-is_empty t c =
+    let none : length c.in-Form.body.items ≡ 0 = grind (arith, c.is_empty.ensures, c.if-is_empty.true) in
+    form_listed c.args.width c.args.node.now.place c.args.node.now.term c.in-Form.op c.in-Form.args c.in-Form.body c.deref-in-Form.result.now c.deref-in-Form-3.result.now c.in-Form.body.items c.deref-in-Form-2.result.now
+    c.args.out.now c.size_errors.new.out c.all_errors-in-Form.new.out c.all_errors-in-Form.new.out
+    c.in-Form.is c.deref-in-Form.ensures.value c.deref-in-Form-2.ensures.value c.deref-in-Form-3.ensures.value refl
+    c.in_ok-size_errors-in-Form.ensures c.in_ok-all_errors-in-Form.ensures (none_listed c.args.width c.in-Form.body.items c.all_errors-in-Form.new.out none)
 
 pub term_errors-returns-in_default : goal.term_errors-returns-in_default
 term_errors-returns-in_default t c =
