@@ -1,10 +1,9 @@
 -- Trees that are like formed ones are formed.
 use Rattle.std.proofs.Common.{◌≡◌, ℕ, Bool, true, false, List, refl, sym, ◌∙◌}
-use Rattle.iasl_messages.specs.declared.place.Place.{Place}
 use Rattle.acpi_values.specs.Operators.{Letter, Valued, Kept, Placed, Used, row_of}
 use Rattle.acpi_values.specs.Operators as L
 use Rattle.asl_meaning.specs.Meaning.{SpotForm, OfResult, OfInside, NoSpot, spot_form}
-use Rattle.asl_tree.specs.FieldItems.{FieldItem}
+use Rattle.asl_tree.specs.FieldItems.{FieldItem, SkipItem}
 use Rattle.asl_tree.specs.Tree.{Tree, Trees, tree, count, UnitName}
 use Rattle.aml_sessions.specs.Ready.{is_expression, is_constant, SpotReady}
 use Rattle.named_sessions.specs.Shaped.{LetterShaped, ElementShaped, EffectShaped, IsFormed, IsFormedSpot, IsFormedAlone, AreFormedOperands, AreFormedSpots, AreFormedValues, AreFormedElements, AreFormed}
@@ -13,7 +12,7 @@ use Rattle.descriptor_fields.specs.Values.{has_value}
 use Rattle.descriptor_shapes.proofs.Like.{Like, LikeInteger, LikeOmitted, LikeRaw, LikeMisshapen, LikeUse, Counted, LikeCall, LikeApply, LikeOperated, LikeAssigned}
 use Rattle.descriptor_shapes.proofs.Like.{LikeAssignedBy, LikeBuffer, LikeBytes, LikePackage, LikeVarPackage, LikeSized, LikeCondRefOf, LikeReturn, LikeName, LikeMethod, LikeContainer, LikeScope, LikeIf, LikeElseIf}
 use Rattle.descriptor_shapes.proofs.Like.{LikeElse, LikeWhile, LikeFor, LikePrint, LikeSwitch, LikeCase, LikeDefault, LikeRegion, LikeField, LikeIndexField, LikeBankField, LikeCreate, LikeBy, NoneBy, FirstBy}
-use Rattle.descriptor_shapes.proofs.Like.{SameSkip, LikeUnits, NoUnits, MoreUnits, LikeFrom, NoneFrom, MoreFrom, same_count}
+use Rattle.descriptor_shapes.proofs.Like.{SameItem, LikeUnits, NoUnits, MoreUnits, LikeFrom, NoneFrom, MoreFrom, same_count}
 
 -- Fors and what prints, symbols and Switches may stand in a program as it is parsed
 abbrev One : Type 0
@@ -31,158 +30,152 @@ Spot = IsFormedSpot One AreNamed One One
 abbrev Operands : List Letter → Trees → Type 0
 Operands = AreFormedOperands One AreNamed One One
 
-abbrev Spots : Trees → Type 0
-Spots = AreFormedSpots One AreNamed One One
-
 -- a place by how its operator leads to one
 by_form : (form : SpotForm) (R I R' I' : Type 0) → (R → R') → (I → I') → SpotReady form R I → SpotReady form R' I'
 by_form OfResult R I R' I' r i h = r h
 by_form OfInside R I R' I' r i h = i h
 by_form NoSpot R I R' I' r i h = h
 
-module _ (Stands : Place → Type 0) where
-  -- ---- what needs no more than the form
+-- ---- what needs no more than the form
 
-  expression : {p : Bool} {t u : Tree} → Like Stands p t u → is_expression t ≡ true → is_expression u ≡ true
-  expression LikeMisshapen e = e
-  expression _ e = e
+expression : {p : Bool} {t u : Tree} → Like p t u → is_expression t ≡ true → is_expression u ≡ true
+expression LikeMisshapen e = e
+expression _ e = e
 
-  constant : {p : Bool} {t u : Tree} → Like Stands p t u → is_constant t ≡ true → is_constant u ≡ true
-  constant (Counted name n placed) e = refl
-  constant _ e = e
+constant : {p : Bool} {t u : Tree} → Like p t u → is_constant t ≡ true → is_constant u ≡ true
+constant (Counted name n) e = refl
+constant _ e = e
 
-  number : {p : Bool} {t u : Tree} → Like Stands p t u → IsNumber t → IsNumber u
-  number (LikeInteger n) h = h
-  number _ h = absurd h
+number : {p : Bool} {t u : Tree} → Like p t u → IsNumber t → IsNumber u
+number (LikeInteger n) h = h
+number _ h = absurd h
 
-  member : {p : Bool} {t u : Tree} → Like Stands p t u → IsCaseMember t → IsCaseMember u
-  member (LikeBuffer bytes more size) h = number size h
-  member _ h = search
+member : {p : Bool} {t u : Tree} → Like p t u → IsCaseMember t → IsCaseMember u
+member (LikeBuffer bytes more size) h = number size h
+member _ h = search
 
-  members : {ks : ℕ → Bool} {n : ℕ} {ts us : Trees} → LikeFrom Stands ks n ts us → AreCaseMembers ts → AreCaseMembers us
-  members NoneFrom h = h
-  members (MoreFrom like rest) h = (member like h.0, members rest h.1)
+members : {ks : ℕ → Bool} {n : ℕ} {ts us : Trees} → LikeFrom ks n ts us → AreCaseMembers ts → AreCaseMembers us
+members NoneFrom h = h
+members (MoreFrom like rest) h = (member like h.0, members rest h.1)
 
-  some_members : {ks : ℕ → Bool} {n : ℕ} {ts us : Trees} → LikeFrom Stands ks n ts us → HaveCaseMembers ts → HaveCaseMembers us
-  some_members NoneFrom h = h
-  some_members (MoreFrom like rest) h = (member like h.0, members rest h.1)
+some_members : {ks : ℕ → Bool} {n : ℕ} {ts us : Trees} → LikeFrom ks n ts us → HaveCaseMembers ts → HaveCaseMembers us
+some_members NoneFrom h = h
+some_members (MoreFrom like rest) h = (member like h.0, members rest h.1)
 
-  -- what a Case compares with
-  case_value : {p : Bool} {t u : Tree} → Like Stands p t u → IsCaseValue t → IsCaseValue u
-  case_value (LikePackage n members) h = some_members members h
-  case_value (LikeVarPackage size members) h = (number size h.0, some_members members h.1)
-  case_value (LikeSized n less size members) h = some_members members h.1
-  case_value like h = member like h
+-- what a Case compares with
+case_value : {p : Bool} {t u : Tree} → Like p t u → IsCaseValue t → IsCaseValue u
+case_value (LikePackage n members) h = some_members members h
+case_value (LikeVarPackage size members) h = (number size h.0, some_members members h.1)
+case_value (LikeSized n less size members) h = some_members members h.1
+case_value like h = member like h
 
-  starts_no_else : {p : Bool} {t u : Tree} → Like Stands p t u → (ts us : Trees) → StartsNoElse (tree t ts) → StartsNoElse (tree u us)
-  starts_no_else LikeMisshapen ts us h = h
-  starts_no_else _ ts us h = h
+starts_no_else : {p : Bool} {t u : Tree} → Like p t u → (ts us : Trees) → StartsNoElse (tree t ts) → StartsNoElse (tree u us)
+starts_no_else LikeMisshapen ts us h = h
+starts_no_else _ ts us h = h
 
-  followed : {p : Bool} {ks : ℕ → Bool} {n : ℕ} {t u : Tree} {ts us : Trees} → Like Stands p t u → LikeFrom Stands ks n ts us → IsFollowed t ts → IsFollowed u us
-  followed (LikeSwitch value cases) NoneFrom h = h
-  followed (LikeSwitch value cases) (MoreFrom {ts = ts} {us = us} like rest) h = starts_no_else like ts us h
-  followed _ rest h = tt
+followed : {p : Bool} {ks : ℕ → Bool} {n : ℕ} {t u : Tree} {ts us : Trees} → Like p t u → LikeFrom ks n ts us → IsFollowed t ts → IsFollowed u us
+followed (LikeSwitch value cases) NoneFrom h = h
+followed (LikeSwitch value cases) (MoreFrom {ts = ts} {us = us} like rest) h = starts_no_else like ts us h
+followed _ rest h = tt
 
-  units : {items others : List (FieldItem UnitName)} → LikeUnits Stands items others → AreNamed items → AreNamed others
-  units NoUnits h = h
-  units (MoreUnits (SameSkip bits) rest) h = units rest h
-  units (MoreUnits _ rest) h = search (units rest)
+units : {items others : List (FieldItem UnitName)} → LikeUnits items others → AreNamed items → AreNamed others
+units NoUnits h = h
+units (MoreUnits (SameItem (SkipItem bits)) rest) h = units rest h
+units (MoreUnits _ rest) h = search (units rest)
 
-  -- ---- formed trees
+-- ---- formed trees
 
-  -- a start or a step, an element, and an operand by its letter, where the tree itself is formed
-  effect : {p : Bool} {t u : Tree} → Like Stands p t u → (Formed t → Formed u) → EffectShaped t (Formed t) → EffectShaped u (Formed u)
-  effect LikeOmitted go h = h
-  effect like go h = (expression like h.0, go h.1)
+-- a start or a step, an element, and an operand by its letter, where the tree itself is formed
+effect : {p : Bool} {t u : Tree} → Like p t u → (Formed t → Formed u) → EffectShaped t (Formed t) → EffectShaped u (Formed u)
+effect LikeOmitted go h = h
+effect like go h = (expression like h.0, go h.1)
 
-  element : {p : Bool} {t u : Tree} → Like Stands p t u → (Formed t → Formed u) → ElementShaped t (Formed t) → ElementShaped u (Formed u)
-  element (LikeUse name placed) go h = h
-  element (Counted name n placed) go h = (refl, tt)
-  element like go h = (constant like h.0, go h.1)
+element : {p : Bool} {t u : Tree} → Like p t u → (Formed t → Formed u) → ElementShaped t (Formed t) → ElementShaped u (Formed u)
+element (LikeUse name) go h = h
+element (Counted name n) go h = (refl, tt)
+element like go h = (constant like h.0, go h.1)
 
-  by_letter : (letter : Letter) {p : Bool} {t u : Tree} → p ≡ has_value letter → Like Stands p t u → (Formed t → Formed u) → (p ≡ false → Spot t → Spot u)
-      → LetterShaped letter t ((is_expression t ≡ true) × Formed t) (Spot t) → LetterShaped letter u ((is_expression u ≡ true) × Formed u) (Spot u)
-  by_letter Valued e like go spot h = (expression like h.0, go h.1)
-  by_letter Kept e like go spot h = (expression like h.0, go h.1)
-  by_letter Placed e like go spot h = spot e h
-  by_letter Used e (Counted name n placed) go spot h = absurd cc
-  by_letter (L.Raw size) e (LikeRaw other n) go spot h = h
-  by_letter _ e _ go spot h = search
+by_letter : (letter : Letter) {p : Bool} {t u : Tree} → p ≡ has_value letter → Like p t u → (Formed t → Formed u) → (p ≡ false → Spot t → Spot u)
+    → LetterShaped letter t ((is_expression t ≡ true) × Formed t) (Spot t) → LetterShaped letter u ((is_expression u ≡ true) × Formed u) (Spot u)
+by_letter Placed e like go spot h = spot e h
+by_letter Used e (Counted name n) go spot h = absurd cc
+by_letter (L.Raw size) e (LikeRaw other n) go spot h = h
+by_letter _ e like go spot h = search (expression like, go)
 
-  mutual
-    formed : {p : Bool} {t u : Tree} → Like Stands p t u → Formed t → Formed u
-    formed (Counted name n placed) h = tt
-    formed (LikeCall name placed args) h = (h.0, values args h.1)
-    formed (LikeApply op args targets) h = (h.0, operands args h.1, sym (same_count Stands targets) ∙ h.2, spots (λ k. refl) targets h.3)
-    formed (LikeOperated op args) h = (h.0, h.1, operands args h.2)
-    formed (LikeAssigned target value) h = (h.0, spot refl target h.1, expression value h.2, formed value h.3)
-    formed (LikeAssignedBy op target value) h = (h.0, spot refl target h.1, expression target h.2, formed target h.3, expression value h.4, formed value h.5)
-    formed (LikeBuffer bytes more size) h = (expression size h.0, formed size h.1)
-    formed (LikeBytes n m bytes more) h = h
-    formed (LikePackage n elements) h = (h.0, elements_formed elements h.1)
-    formed (LikeVarPackage size elements) h = (expression size h.0, formed size h.1, elements_formed elements h.2)
-    formed (LikeSized n less size elements) h = (less, elements_formed elements h.2)
-    formed (LikeCondRefOf place target) h = (spot refl place h.0, spot refl target h.1)
-    formed (LikeReturn value) h = (expression value h.0, formed value h.1)
-    formed (LikeName name placed value) h = (h.0, expression value h.1, formed value h.2)
-    formed (LikeMethod name flags placed body) h = (h.0, h.1, all_formed body h.2)
-    formed (LikeContainer kind name placed body) h = (h.0, h.1, all_formed body h.2)
-    formed (LikeScope name here placed body) h = (h.0, all_formed body h.1)
-    formed (LikeIf test body) h = (expression test h.0, formed test h.1, all_formed body h.2)
-    formed (LikeElseIf test body) h = (h.0, expression test h.1, formed test h.2, all_formed body h.3)
-    formed (LikeElse body) h = all_formed body h
-    formed (LikeWhile test body) h = (expression test h.0, formed test h.1, all_formed body h.2)
-    formed (LikeFor start test step body) h = (h.0, effect start (λ k. formed start k) h.1, expression test h.2, formed test h.3, effect step (λ k. formed step k) h.4, all_formed body h.5)
-    formed (LikePrint format place args) h = (h.0, spot refl place h.1, h.2, values args h.3, sym (same_count Stands args) ∙ h.4)
-    formed (LikeSwitch value cases) h = (h.0, expression value h.1, formed value h.2, cases_formed cases h.3)
-    formed (LikeCase value body) h = absurd h
-    formed (LikeDefault body) h = absurd h
-    formed (LikeRegion name space placed args) h = (h.0, h.1, operands args h.2)
-    formed (LikeField region flags here from items) h = (h.0, h.1, units items h.2)
-    formed (LikeIndexField index register flags here from to items) h = (h.0, h.1, h.2, units items h.3)
-    formed (LikeBankField region bank flags here from to value items) h = (h.0, h.1, expression value h.2, formed value h.3, h.4, units items h.5)
-    formed (LikeCreate form name args placed) h = (operands args h.0, h.1)
-    formed _ h = h
+mutual
+  formed : {p : Bool} {t u : Tree} → Like p t u → Formed t → Formed u
+  formed (Counted name n) h = tt
+  formed (LikeCall name args) h = (h.0, values args h.1)
+  formed (LikeApply op args targets) h = (h.0, operands args h.1, sym (same_count targets) ∙ h.2, spots (λ k. refl) targets h.3)
+  formed (LikeOperated op args) h = (h.0, h.1, operands args h.2)
+  formed (LikeAssigned target value) h = (h.0, spot refl target h.1, expression value h.2, formed value h.3)
+  formed (LikeAssignedBy op target value) h = (h.0, spot refl target h.1, expression target h.2, formed target h.3, expression value h.4, formed value h.5)
+  formed (LikeBuffer bytes more size) h = (expression size h.0, formed size h.1)
+  formed (LikeBytes n m bytes more) h = h
+  formed (LikePackage n elements) h = (h.0, elements_formed elements h.1)
+  formed (LikeVarPackage size elements) h = (expression size h.0, formed size h.1, elements_formed elements h.2)
+  formed (LikeSized n less size elements) h = (less, elements_formed elements h.2)
+  formed (LikeCondRefOf place target) h = (spot refl place h.0, spot refl target h.1)
+  formed (LikeReturn value) h = (expression value h.0, formed value h.1)
+  formed (LikeName name value) h = (h.0, expression value h.1, formed value h.2)
+  formed (LikeMethod name flags body) h = (h.0, h.1, all_formed body h.2)
+  formed (LikeContainer kind name body) h = (h.0, h.1, all_formed body h.2)
+  formed (LikeScope name body) h = (h.0, all_formed body h.1)
+  formed (LikeIf test body) h = (expression test h.0, formed test h.1, all_formed body h.2)
+  formed (LikeElseIf test body) h = (h.0, expression test h.1, formed test h.2, all_formed body h.3)
+  formed (LikeElse body) h = all_formed body h
+  formed (LikeWhile test body) h = (expression test h.0, formed test h.1, all_formed body h.2)
+  formed (LikeFor start test step body) h = (h.0, effect start (λ k. formed start k) h.1, expression test h.2, formed test h.3, effect step (λ k. formed step k) h.4, all_formed body h.5)
+  formed (LikePrint format place args) h = (h.0, spot refl place h.1, h.2, values args h.3, sym (same_count args) ∙ h.4)
+  formed (LikeSwitch value cases) h = (h.0, expression value h.1, formed value h.2, cases_formed cases h.3)
+  formed (LikeCase value body) h = absurd h
+  formed (LikeDefault body) h = absurd h
+  formed (LikeRegion name space args) h = (h.0, h.1, operands args h.2)
+  formed (LikeField region flags items) h = (h.0, h.1, units items h.2)
+  formed (LikeIndexField index register flags items) h = (h.0, h.1, h.2, units items h.3)
+  formed (LikeBankField region bank flags value items) h = (h.0, h.1, expression value h.2, formed value h.3, h.4, units items h.5)
+  formed (LikeCreate form name args) h = (operands args h.0, h.1)
+  formed _ h = h
 
-    -- a place is no expression
-    spot : {p : Bool} {t u : Tree} → p ≡ false → Like Stands p t u → Spot t → Spot u
-    spot e (Counted name n placed) h = absurd cc
-    spot e (LikeApply op {args = args} {targets = targets} like likes) h = (
-      h.0,
-      by_form (spot_form op) _ _ _ _
-          (λ (k : Operands (row_of op).operands args × (count targets ≡ (row_of op).targets) × Spots targets). (operands like k.0, sym (same_count Stands likes) ∙ k.1, spots (λ k. refl) likes k.2))
-          (λ k. alone like likes k) h.1,
-    )
-    spot e (LikeOperated op like) h = (h.0, h.1, by_form (spot_form op) _ ⊥ _ ⊥ (λ k. operands like k) (λ k. k) h.2)
-    spot e _ h = search
+  -- a place is no expression
+  spot : {p : Bool} {t u : Tree} → p ≡ false → Like p t u → Spot t → Spot u
+  spot e (Counted name n) h = absurd cc
+  spot e (LikeApply op {args = args} {targets = targets} like likes) h = (
+    h.0,
+    by_form (spot_form op) _ _ _ _
+        (λ (k : Operands (row_of op).operands args × (count targets ≡ (row_of op).targets) × AreFormedSpots One AreNamed One One targets). (operands like k.0, sym (same_count likes) ∙ k.1, spots (λ k. refl) likes k.2))
+        (λ k. alone like likes k) h.1,
+  )
+  spot e (LikeOperated op like) h = (h.0, h.1, by_form (spot_form op) _ ⊥ _ ⊥ (λ k. operands like k) (λ k. k) h.2)
+  spot e _ h = search
 
-    alone : {letters : List Letter} {ks : ℕ → Bool} {n : ℕ} {args others targets goals : Trees} → LikeBy Stands letters args others → LikeFrom Stands ks n targets goals
-        → IsFormedAlone One AreNamed One One args targets → IsFormedAlone One AreNamed One One others goals
-    alone (FirstBy value NoneBy) NoneFrom h = (expression value h.0, formed value h.1)
-    alone _ _ h = absurd h
+  alone : {letters : List Letter} {ks : ℕ → Bool} {n : ℕ} {args others targets goals : Trees} → LikeBy letters args others → LikeFrom ks n targets goals
+      → IsFormedAlone One AreNamed One One args targets → IsFormedAlone One AreNamed One One others goals
+  alone (FirstBy value NoneBy) NoneFrom h = (expression value h.0, formed value h.1)
+  alone _ _ h = absurd h
 
-    operands : {letters : List Letter} {ts us : Trees} → LikeBy Stands letters ts us → Operands letters ts → Operands letters us
-    operands NoneBy h = h
-    operands (FirstBy {letter = letter} like rest) h = (by_letter letter refl like (λ k. formed like k) (λ e k. spot e like k) h.0, operands rest h.1)
+  operands : {letters : List Letter} {ts us : Trees} → LikeBy letters ts us → Operands letters ts → Operands letters us
+  operands NoneBy h = h
+  operands (FirstBy {letter = letter} like rest) h = (by_letter letter refl like (λ k. formed like k) (λ e k. spot e like k) h.0, operands rest h.1)
 
-    spots : {ks : ℕ → Bool} {n : ℕ} {ts us : Trees} → ((k : ℕ) → ks k ≡ false) → LikeFrom Stands ks n ts us → Spots ts → Spots us
-    spots e NoneFrom h = h
-    spots {n = n} e (MoreFrom like rest) h = (spot (e n) like h.0, spots e rest h.1)
+  spots : {ks : ℕ → Bool} {n : ℕ} {ts us : Trees} → ((k : ℕ) → ks k ≡ false) → LikeFrom ks n ts us → AreFormedSpots One AreNamed One One ts → AreFormedSpots One AreNamed One One us
+  spots e NoneFrom h = h
+  spots {n = n} e (MoreFrom like rest) h = (spot (e n) like h.0, spots e rest h.1)
 
-    values : {ks : ℕ → Bool} {n : ℕ} {ts us : Trees} → LikeFrom Stands ks n ts us → AreFormedValues One AreNamed One One ts → AreFormedValues One AreNamed One One us
-    values NoneFrom h = h
-    values (MoreFrom like rest) h = (expression like h.0, formed like h.1, values rest h.2)
+  values : {ks : ℕ → Bool} {n : ℕ} {ts us : Trees} → LikeFrom ks n ts us → AreFormedValues One AreNamed One One ts → AreFormedValues One AreNamed One One us
+  values NoneFrom h = h
+  values (MoreFrom like rest) h = (expression like h.0, formed like h.1, values rest h.2)
 
-    elements_formed : {ks : ℕ → Bool} {n : ℕ} {ts us : Trees} → LikeFrom Stands ks n ts us → AreFormedElements One AreNamed One One ts → AreFormedElements One AreNamed One One us
-    elements_formed NoneFrom h = h
-    elements_formed (MoreFrom like rest) h = (element like (λ k. formed like k) h.0, elements_formed rest h.1)
+  elements_formed : {ks : ℕ → Bool} {n : ℕ} {ts us : Trees} → LikeFrom ks n ts us → AreFormedElements One AreNamed One One ts → AreFormedElements One AreNamed One One us
+  elements_formed NoneFrom h = h
+  elements_formed (MoreFrom like rest) h = (element like (λ k. formed like k) h.0, elements_formed rest h.1)
 
-    pub all_formed : {ks : ℕ → Bool} {n : ℕ} {ts us : Trees} → LikeFrom Stands ks n ts us → IsProgram ts → IsProgram us
-    all_formed NoneFrom h = h
-    all_formed (MoreFrom like rest) h = (formed like h.0, followed like rest h.1, all_formed rest h.2)
+  pub all_formed : {ks : ℕ → Bool} {n : ℕ} {ts us : Trees} → LikeFrom ks n ts us → IsProgram ts → IsProgram us
+  all_formed NoneFrom h = h
+  all_formed (MoreFrom like rest) h = (formed like h.0, followed like rest h.1, all_formed rest h.2)
 
-    cases_formed : {n : ℕ} {ts us : Trees} → LikeFrom Stands (λ k. true) n ts us → AreFormedCases One AreNamed One One ts → AreFormedCases One AreNamed One One us
-    cases_formed NoneFrom h = h
-    cases_formed (MoreFrom (LikeCase value body) rest) h = (case_value value h.0, all_formed body h.1, cases_formed rest h.2)
-    cases_formed (MoreFrom (LikeDefault body) NoneFrom) h = all_formed body h
-    cases_formed _ h = absurd h
+  cases_formed : {n : ℕ} {ts us : Trees} → LikeFrom (λ k. true) n ts us → AreFormedCases One AreNamed One One ts → AreFormedCases One AreNamed One One us
+  cases_formed NoneFrom h = h
+  cases_formed (MoreFrom (LikeCase value body) rest) h = (case_value value h.0, all_formed body h.1, cases_formed rest h.2)
+  cases_formed (MoreFrom (LikeDefault body) NoneFrom) h = all_formed body h
+  cases_formed _ h = absurd h

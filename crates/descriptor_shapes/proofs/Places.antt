@@ -9,7 +9,7 @@ use Rattle.asl_tree.specs.declared.term.NamedDescriptor.{NamedDescriptor}
 use Rattle.asl_parser.specs.Within.{IsIn}
 use Rattle.asl_numbers.specs.Numbers.{inside, nodes}
 use Rattle.asl_shape.specs.Plans.{Plan, a_fill, a_name, a_call, a_form, Plans, no_plans, plan, join}
-use Rattle.descriptor_fields.specs.Declaring.{has_terms, names_inside, names_among, declarations, alone, beside, is_first, opened, declaring, declared_by, unless_declared, closed, stripped}
+use Rattle.descriptor_fields.specs.Declaring.{has_terms, names_inside, names_among, declarations, alone, beside, opened, declaring, declared_by, unless_declared, closed, stripped}
 use Rattle.descriptor_fields.specs.Values.{Among, Arguments, Contents, OfCall, is_value_in, is_in_bits}
 use Rattle.descriptor_fields.specs.Constants.{resolved_use, broken_use, resolved, resolved_from, broken, broken_from}
 use Rattle.descriptor_fields.specs.Nodes.{at_node}
@@ -50,20 +50,16 @@ module _ (files : ℕ) where
     opened_within (a_fill bytes named) h = (h, h)
     opened_within (a_call name args) h = ((names_within args h).0, h)
     opened_within (a_form op args body) h =
-        let k = names_within body h.1 in
-        let l = by_terms (has_terms op) (names_among body) (declaring body) body k.0 k.1 h.1 in
-        (both_names (names_among args) (if has_terms op then [] else names_among body) (names_within args h.0).0 l.0, (h.0, l.1))
+        let k = names_within args h.0 in
+        let l = names_within body h.1 in
+        let m = by_terms (has_terms op) (names_among body) (declaring body) body l.0 l.1 h.1 in search both_names
     opened_within _ h = (tt, tt)
 
     names_within : (ps : Plans) → PlansWithin files ps → NamesWithin files (names_among ps) × PlansWithin files (declaring ps)
     names_within no_plans h = (tt, tt)
     names_within (plan place p ps) h =
         let k = opened_within p h.1 in
-        let l = names_within ps h.2 in (
-          both_names (names_inside p) (names_among ps) k.0 l.0,
-          both_plans (beside (is_first p) (declarations (names_inside p)) (alone place (opened p))) (declaring ps)
-              (beside_within (is_first p) (declarations (names_inside p)) (alone place (opened p)) (declarations_within (names_inside p) k.0) (h.0, k.1, tt)) l.1,
-        )
+        let l = names_within ps h.2 in search (both_names, both_plans, beside_within, declarations_within)
 
   pub declaring_within : (ps : Plans) → PlansWithin files ps → PlansWithin files (declaring ps)
   declaring_within ps h = (names_within ps h).1

@@ -1,14 +1,13 @@
 -- The terms of a program with those that declare its descriptors, in which fields are constants: these can be taken out again, and what is
 -- left are the program's own terms, in which fields are constants.
-use Rattle.std.proofs.Common.{◌≡◌, ℕ, suc, ◌+◌, Bool, true, false, List, [], ◌∷◌, Option, Some, None, refl, sym, subst, ap, ◌∙◌, arith}
+use Rattle.std.proofs.Common.{◌≡◌, ℕ, suc, ◌+◌, Bool, true, false, List, [], ◌∷◌, Option, Some, refl, sym, subst, ap, ◌∙◌, arith}
 use Rattle.std.specs.Prelude.{◌||◌, if◌then◌else◌}
 use Rattle.iasl_messages.specs.declared.place.Place.{Place}
 use Rattle.asl_tree.specs.declared.path.Path.{Path}
 use Rattle.asl_tree.specs.declared.term.Op.{Op}
-use Rattle.asl_tree.specs.declared.term.Special.TheVariants as Special
 use Rattle.asl_tree.specs.declared.term.Declaration.TheVariants as Declaration
 use Rattle.asl_tree.specs.declared.term.NamedDescriptor.{NamedDescriptor}
-use Rattle.asl_tree.specs.Tree.{At, Trees, Tree, Use, Fill, Misshapen, no_trees, tree, Case, Default}
+use Rattle.asl_tree.specs.Tree.{At, Trees, Tree, Use, Fill, no_trees, tree, Case, Default}
 use Rattle.asl_tree.specs.View.{form}
 use Rattle.asl_shape.specs.Plans.{Plan, a_fill, a_name, a_call, a_form, Plans, no_plans, plan, plan_at, join}
 use Rattle.asl_shape.specs.Descriptors.{named_of}
@@ -22,7 +21,7 @@ use Rattle.unused_names.specs.Bare.{nowhere}
 use Rattle.stripped_names.specs.Whole.{IsShaped, Describes, Where, IsWhole, AreWhole}
 use Rattle.descriptor_shapes.proofs.Like.{Like, LikeMisshapen, LikeUse, LikeInteger, LikeString, LikeFrom, NoneFrom, MoreFrom}
 use Rattle.descriptor_shapes.proofs.Formed.{IsProgram, all_formed}
-use Rattle.descriptor_shapes.proofs.Uses.{Resolves, Stays, Becomes, InCall, InForm, AllResolve, NoneResolve, MoreResolve, Anywhere, all_resolve, like, all_like}
+use Rattle.descriptor_shapes.proofs.Uses.{Resolves, AllResolve, stays, in_form, more_resolve, use_resolves, resolves, all_resolve}
 use Rattle.asl_tree.specs.declared.term.Control.TheVariants as Control
 use Rattle.named_sessions.specs.Shaped.{IsFormed, AreFormedCases, AreNamed}
 
@@ -49,24 +48,20 @@ first_term (Case value body) ts (Cases h) = (h.1, Cases h.2)
 first_term (Default body) no_trees (Cases h) = (h, Cases tt)
 first_term _ _ (Cases h) = absurd h
 
-pub term_shaped : (t : Tree) → IsTerm t → IsShaped t
-term_shaped Misshapen h = h
-term_shaped _ h = tt
-
 -- no more trees where there are none
 pub data Fuller : Trees → Trees → Type 0 where
   Empty : Fuller no_trees no_trees
   Full : (t : Tree) (ts us : Trees) → Fuller (tree t ts) us
 
-pub body_terms : (here there : At) (op : Op) {ts us bs cs : Trees} → LikeFrom Anywhere (is_value op) 0 ts us → has_terms op ≡ true → Fuller bs cs
+pub body_terms : (here there : At) (op : Op) {ts us bs cs : Trees} → LikeFrom (is_value op) 0 ts us → has_terms op ≡ true → Fuller bs cs
     → IsTerm (form here op ts bs) → AreTerms bs × IsShaped (form there op us cs)
-body_terms here there (Op.Declaration Declaration.Method) (MoreFrom (LikeUse name k) (MoreFrom (LikeInteger flags) NoneFrom)) e full h = (Terms h.2, tt)
-body_terms here there (Op.Declaration Declaration.Device) (MoreFrom (LikeUse name k) NoneFrom) e full h = (Terms h.2, tt)
-body_terms here there (Op.Declaration Declaration.ThermalZone) (MoreFrom (LikeUse name k) NoneFrom) e full h = (Terms h.2, tt)
-body_terms here there (Op.Declaration Declaration.PowerResource) (MoreFrom (LikeUse name k) (MoreFrom (LikeInteger level) (MoreFrom (LikeInteger order) NoneFrom))) e full h = (Terms h.2, tt)
+body_terms here there (Op.Declaration Declaration.Method) (MoreFrom (LikeUse name) (MoreFrom (LikeInteger flags) NoneFrom)) e full h = (Terms h.2, tt)
+body_terms here there (Op.Declaration Declaration.Device) (MoreFrom (LikeUse name) NoneFrom) e full h = (Terms h.2, tt)
+body_terms here there (Op.Declaration Declaration.ThermalZone) (MoreFrom (LikeUse name) NoneFrom) e full h = (Terms h.2, tt)
+body_terms here there (Op.Declaration Declaration.PowerResource) (MoreFrom (LikeUse name) (MoreFrom (LikeInteger level) (MoreFrom (LikeInteger order) NoneFrom))) e full h = (Terms h.2, tt)
 body_terms here there (Op.Declaration Declaration.Processor)
-    (MoreFrom (LikeUse name k) (MoreFrom (LikeInteger number) (MoreFrom (LikeInteger address) (MoreFrom (LikeInteger size) NoneFrom)))) e full h = (Terms h.2, tt)
-body_terms here there (Op.Declaration Declaration.Scope) (MoreFrom (LikeUse name k) NoneFrom) e full h = (Terms h.1, tt)
+    (MoreFrom (LikeUse name) (MoreFrom (LikeInteger number) (MoreFrom (LikeInteger address) (MoreFrom (LikeInteger size) NoneFrom)))) e full h = (Terms h.2, tt)
+body_terms here there (Op.Declaration Declaration.Scope) (MoreFrom (LikeUse name) NoneFrom) e full h = (Terms h.1, tt)
 body_terms here there (Op.Control Control.Return) (MoreFrom value NoneFrom) e Empty h = (Terms tt, tt)
 body_terms here there (Op.Control Control.If) (MoreFrom test NoneFrom) e full h = (Terms h.2, tt)
 body_terms here there (Op.Control Control.ElseIf) (MoreFrom test NoneFrom) e full h = (Terms h.3, tt)
@@ -97,7 +92,8 @@ join_again : (ps qs rs : Plans) → join (join ps qs) rs ≡ join ps (join qs rs
 join_again no_plans qs rs = refl
 join_again (plan place p ps) qs rs = ap (plan place p) (join_again ps qs rs)
 
-shaped_like : {value : Bool} {t u : _} → Like Anywhere value t u → IsShaped t → IsShaped u
+-- what is like a term is not misshapen
+shaped_like : {value : Bool} {t u : _} → Like value t u → IsTerm t → IsShaped u
 shaped_like LikeMisshapen h = h
 shaped_like _ h = tt
 
@@ -105,15 +101,14 @@ shaped_like _ h = tt
 
 -- a term declares nothing, is one of the program's with its body closed again, and can be taken apart
 abbrev Comes : Bool → Plan → Plan → Type 0
-Comes value p q = (declared_by q ≡ []) × Resolves Anywhere value p (closed q) × IsWhole q
+Comes value p q = (declared_by q ≡ []) × Resolves value p (closed q) × IsWhole q
 
 abbrev AllCome : Among → ℕ → Plans → Plans → Type 0
-AllCome among n ps qs = AllResolve Anywhere among n ps (stripped qs) × AreWhole qs
+AllCome among n ps qs = AllResolve among n ps (stripped qs) × AreWhole qs
 
 use_comes : (bits value : Bool) (name : Path) (field : Option ℕ) → Comes value (a_name name) (resolved_use bits value name field)
-use_comes bits true name (Some bit) = (refl, Becomes name _, tt)
-use_comes bits true name None = (refl, Stays (a_name name) tt, tt)
-use_comes bits false name field = (refl, Stays (a_name name) tt, tt)
+use_comes bits true name (Some bit) = (refl, use_resolves bits true name (Some bit), tt)
+use_comes bits _ name _ = (refl, stays (a_name name) tt, tt)
 
 use_none : (bits value : Bool) (name : Path) (field : Option ℕ) → (named_of (resolved_use bits value name field) ≡ []) × Describes (resolved_use bits value name field)
 use_none bits true name (Some bit) = (refl, tt)
@@ -146,7 +141,7 @@ module _ (fields : List (ℕ × ℕ)) where
         let here : Plan = resolved fields (bits || is_in_bits among n) (is_value_in among n) node q in
         let h : Comes (is_value_in among n) p here = term n node in
         let k : AllCome among (suc i) ps (resolved_from fields among (suc n) bits (suc (node + inside q)) qs) = rest (suc n) (suc (node + inside q)) in
-        (rw h.0 (MoreResolve tt (subst (λ value. Resolves Anywhere value p (closed here)) (values n ∙ sym (values i)) h.1) k.0), (h.2, k.1))
+        (rw h.0 (more_resolve (subst (λ value. Resolves value p (closed here)) (values n ∙ sym (values i)) h.1) k.0), (h.2, k.1))
 
     beside_come : (b : Bool) (names : List NamedDescriptor) (i : ℕ) (place : Place) (p q : Plan) (ps qs : Plans) → TermComes p q → Come (suc i) ps qs
         → Come i (plan place p ps) (join (beside b (declarations names) (alone place q)) qs)
@@ -162,7 +157,7 @@ module _ (fields : List (ℕ × ℕ)) where
     abbrev more : Plans → Plans
     more ps = resolved_from fields (Contents op) 0 bits (suc node + nodes args) ps
 
-    given : AllResolve Anywhere (Arguments op) 0 args others
+    given : AllResolve (Arguments op) 0 args others
     given = all_resolve fields (Arguments op) 0 bits (suc node) args
 
     fuller : (ps : Plans) (n m : ℕ) → Fuller (numbered_all n ps) (numbered_all m (more (declaring ps)))
@@ -171,34 +166,34 @@ module _ (fields : List (ℕ × ℕ)) where
     fuller (plan place p ps) n m = Full _ _ _
 
     form_comes : (b : Bool) → has_terms op ≡ b → (((k : ℕ) → is_value_in (Contents op) k ≡ true) → AreTerms (numbered_all (next + nodes args) body) → AllCome (Contents op) 0 body (more (declaring body)))
-        → Resolves Anywhere value (a_form op args body) (a_form op others (if b then stripped (more (if b then declaring body else body)) else more (if b then declaring body else body)))
+        → Resolves value (a_form op args body) (a_form op others (if b then stripped (more (if b then declaring body else body)) else more (if b then declaring body else body)))
         × IsShaped (numbered nowhere 0 (a_form op others (more (if b then declaring body else body)))) × Where b (AreWhole (more (if b then declaring body else body)))
     unfolding numbered
     form_comes true e go =
         let k : AreTerms (numbered_all (next + nodes args) body) × IsShaped (numbered nowhere 0 (a_form op others (more (declaring body)))) =
-        body_terms at nowhere op (all_like Anywhere next 0 given) e (fuller body (next + nodes args) (0 + nodes others)) h in
+        body_terms at nowhere op (given.all_alike next 0) e (fuller body (next + nodes args) (0 + nodes others)) h in
         let inner : AllCome (Contents op) 0 body (more (declaring body)) = go (λ k. terms_are_values op e) k.0 in
-        (InForm op given inner.0, k.1, inner.1)
+        (in_form op given inner.0, k.1, inner.1)
     form_comes false e go =
-        let same : Resolves Anywhere value (a_form op args body) (a_form op others (more body)) = InForm op given (all_resolve fields (Contents op) 0 bits (suc node + nodes args) body) in
-        (same, shaped_like (like Anywhere at nowhere next 0 tt same) (term_shaped (numbered at next (a_form op args body)) h), tt)
+        let same : Resolves value (a_form op args body) (a_form op others (more body)) = in_form op given (all_resolve fields (Contents op) 0 bits (suc node + nodes args) body) in
+        (same, shaped_like (same.alike at nowhere next 0) h, tt)
 
   mutual
     unfolding numbered numbered_all
 
     comes : (bits value : Bool) (node : ℕ) (p : Plan) (at : At) (next : ℕ) → IsTerm (numbered at next p) → Comes value p (resolved fields bits value node (opened p))
     comes bits value node (a_name name) at next h = use_comes bits value name (at_node fields node)
-    comes bits value node (a_call name args) at next h = (refl, InCall name (all_resolve fields OfCall 0 bits (suc node) args), tt)
+    comes bits value node (a_call name args) at next h = (refl, resolves fields bits value node (a_call name args), tt)
     comes bits value node (a_form op args body) at next h =
         let f = form_comes bits value node op args body at next h (has_terms op) refl
         (λ values k. all_come (Contents op) values bits 0 0 (suc node + nodes args) body (next + nodes args) k) in
         let none = none_declared op args (resolved_from fields (Contents op) 0 bits (suc node + nodes args) (if has_terms op then declaring body else body)) at next (numbered_all (next + nodes args) body) bits (suc node) h in
         (none.0, f.0, (f.1, (none.1, f.2)))
-    comes bits value node p at next h = (refl, Stays p tt, tt)
+    comes bits value node p at next h = (refl, stays p tt, tt)
 
     pub all_come : (among : Among) → ((k : ℕ) → is_value_in among k ≡ true) → (bits : Bool) (i n node : ℕ) (ps : Plans) (next : ℕ) → AreTerms (numbered_all next ps)
         → AllCome among i ps (resolved_from fields among n bits node (declaring ps))
-    all_come among values bits i n node no_plans next h = (NoneResolve, tt)
+    all_come among values bits i n node no_plans next h = (record { all_alike = λ next more. NoneFrom }, tt)
     all_come among values bits i n node (plan place p ps) next h =
         let here : At = record { id = next; place = place } in
         let k = first_term (numbered here (suc next) p) (numbered_all (suc (next + inside p)) ps) h in
@@ -214,7 +209,7 @@ module _ (next : ℕ) (ps : Plans) (h : IsProgram (numbered_all next ps)) where
 
   -- a formed program is formed where fields of descriptors are constants
   pub resolved_formed : IsProgram (numbered_all next (resolved_terms ps))
-  resolved_formed = all_formed Anywhere (all_like Anywhere next next come.0) h
+  resolved_formed = all_formed (come.0.all_alike next next) h
 
   -- and its terms with those that declare descriptors can be taken apart again
   pub checked_whole : AreWhole (checked_terms ps)

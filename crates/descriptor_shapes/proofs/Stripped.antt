@@ -1,9 +1,9 @@
 -- Where nothing is told of a block, nothing is wrong with the terms that are compiled, and what is found of its names serves for them.
 use Rattle.std.proofs.Common.{◌≡◌, ℕ, Bool, true, false, List, [], get_or, Option, None, ◌∷◌, ◌++◌, refl, sym, ◌∙◌}
-use Rattle.std.specs.Prelude.{is_some, if◌then◌else◌, map, filter, Option}
+use Rattle.std.specs.Prelude.{is_some, if◌then◌else◌, map, Option}
 use Rattle.acpi_values.specs.Paths.{AbsolutePath}
 use Rattle.asl_tree.specs.declared.term.NamedDescriptor.{NamedDescriptor}
-use Rattle.asl_meaning.specs.Declarations.{declarations, nothing_declared}
+use Rattle.asl_meaning.specs.Declarations.{declarations}
 use Rattle.acpi_names.specs.Errors.{whole_of, name_errors, type_errors, NameError}
 use Rattle.acpi_names.specs.Parts.{Agrees}
 use Rattle.acpi_names.specs.Tables.{Tabled}
@@ -11,7 +11,7 @@ use Rattle.acpi_names.specs.Terms.{are_terms}
 use Rattle.asl_shape.specs.Plans.{Plans}
 use Rattle.asl_numbers.specs.Numbers.{numbered_all}
 use Rattle.descriptor_checks.specs.Resolved.{table_of, checked_terms, resolved_terms, mentions_of, names_of, broken_fields}
-use Rattle.descriptor_checks.specs.Told.{checked_trees, names_told, kinds_told, all_below, is_no_field, is_of_no_descriptor, all_use_faults, names_wrong, fields_wrong, kinds_wrong}
+use Rattle.descriptor_checks.specs.Told.{checked_trees, names_told, kinds_told, all_below, all_use_faults, names_wrong, fields_wrong, kinds_wrong}
 use Rattle.unused_names.specs.Left.{DescriptorsAreApart}
 use Rattle.stripped_names.proofs.Apart.{untold_apart}
 use Rattle.stripped_names.proofs.Forgotten.{forgotten_index}
@@ -21,7 +21,6 @@ use Rattle.descriptor_shapes.proofs.Formed.{IsProgram}
 use Rattle.descriptor_shapes.proofs.Terms.{checked_are_terms}
 use Rattle.descriptor_shapes.proofs.Resolved.{checked_whole}
 use Rattle.std.specs.List.{All}
-use Rattle.acpi_names.specs.Mentions.{all_errors, all_types}
 use Rattle.name_checks.specs.Messages.{message_of}
 use Rattle.descriptor_fields.specs.Declaring.{declaring}
 use Rattle.unused_names.proofs.Errors.{left_none, right_none}
@@ -43,9 +42,7 @@ module _ (ps : Plans) where
     no_kinds_wrong = left_none (kinds_wrong all) (broken_fields ps) kinds
 
     uses : Each (IsOfNone (names_of all) (table_of all)) (mentions_of all)
-    uses =
-        let types = all_types (whole_of (checked_trees ps)) (filter (is_of_no_descriptor (names_of all) (table_of all)) (mentions_of all)) in
-        no_senses (names_of all) (table_of all) (mentions_of all) (right_none (map message_of types) (all_use_faults (names_of all) (table_of all) (mentions_of all)) no_kinds_wrong)
+    uses = no_senses (names_of all) (table_of all) (mentions_of all) (right_none _ (all_use_faults (names_of all) (table_of all) (mentions_of all)) no_kinds_wrong)
 
     -- no mention denotes a descriptor or a field of one
     pub untold_uses : All (IsOfNone (names_of all) (table_of all)) (mentions_of all)
@@ -60,9 +57,7 @@ module _ (ps : Plans) where
 
     -- nothing is declared directly below one
     pub untold_below : all_below (table_of all) (mentions_of all) ≡ []
-    untold_below =
-        let errors = all_errors (whole_of (checked_trees ps)) (filter (is_no_field (names_of all) (table_of all)) (mentions_of all)) nothing_declared in
-        right_none errors (all_below (table_of all) (mentions_of all)) no_names_wrong
+    untold_below = right_none _ (all_below (table_of all) (mentions_of all)) no_names_wrong
 
   module _ (are : are_terms (checked_trees ps) ≡ true) (names : names_told ps ≡ []) (kinds : kinds_told ps ≡ []) where
     pub untold_names : name_errors (checked_trees ps) ≡ []

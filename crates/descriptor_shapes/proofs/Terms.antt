@@ -1,6 +1,6 @@
 -- The terms of a program with those that declare its descriptors are terms.
-use Rattle.std.proofs.Common.{◌≡◌, ℕ, Bool, true, false, refl, sym, ap, ◌∙◌, arith}
-use Rattle.std.specs.Prelude.{◌&&◌, if◌then◌else◌}
+use Rattle.std.proofs.Common.{◌≡◌, ℕ, true, refl, sym, ap, ◌∙◌, arith}
+use Rattle.std.specs.Prelude.{◌&&◌}
 use Rattle.asl_tree.specs.Tree.{Tree, Method, Container', Scope, If, ElseIf, Else, While, For, Switch, Case, Default, Trees, no_trees, tree}
 use Rattle.asl_shape.specs.Plans.{Plans}
 use Rattle.asl_numbers.specs.Numbers.{numbered_all}
@@ -9,14 +9,11 @@ use Rattle.named_sessions.specs.Shaped.{AreNamed}
 use Rattle.named_sessions.proofs.Terms.{formed_terms}
 use Rattle.descriptor_checks.specs.Resolved.{checked_terms, resolved_terms}
 use Rattle.descriptor_checks.specs.Told.{checked_trees}
-use Rattle.unused_names.specs.Left.{declares_descriptor, left_term, left_terms}
+use Rattle.unused_names.specs.Left.{left_term, left_terms}
 use Rattle.unused_names.proofs.Bare.{same_terms}
 use Rattle.stripped_names.proofs.Stripped.{terms_left}
 use Rattle.descriptor_shapes.proofs.Formed.{IsProgram}
 use Rattle.descriptor_shapes.proofs.Resolved.{resolved_formed, checked_whole}
-
-declared : (t : Tree) → declares_descriptor t ≡ true → is_term t ≡ true
-declared t e = grind arith
 
 -- they are terms if those that are left are
 mutual
@@ -36,12 +33,7 @@ mutual
 
   terms_same : (ts : Trees) → are_terms (left_terms ts) ≡ are_terms ts
   terms_same no_trees = refl
-  terms_same (tree t ts) = by_kind (declares_descriptor t) refl (term_same t) (terms_same ts)
-    where
-      by_kind : (b : Bool) → declares_descriptor t ≡ b → is_term (left_term t) ≡ is_term t → are_terms (left_terms ts) ≡ are_terms ts
-          → are_terms (if b then left_terms ts else tree (left_term t) (left_terms ts)) ≡ (is_term t && are_terms ts)
-      by_kind true e first rest = rest ∙ ap (λ b. b && are_terms ts) (sym (declared t e))
-      by_kind false e first rest = ap (λ b. b && are_terms (left_terms ts)) first ∙ ap (λ b. is_term t && b) rest
+  terms_same (tree t ts) = let h = term_same t in let k = terms_same ts in grind arith
 
 pub checked_are_terms : (next : ℕ) (ps : Plans) → IsProgram (numbered_all next ps) → are_terms (checked_trees ps) ≡ true
 checked_are_terms next ps h =

@@ -1,21 +1,20 @@
 -- What is told of the names of a block stands where its terms and its descriptors stand.
 use Rattle.std.proofs.Common.{ℕ, Bool, true, false, List, [], ◌∷◌, ◌++◌, Option, Some, None}
-use Rattle.std.specs.Prelude.{not, if◌then◌else◌, map, filter}
+use Rattle.std.specs.Prelude.{not, if◌then◌else◌, map}
 use Rattle.std.specs.List.{All}
 use Rattle.acpi_values.specs.Paths.{AbsolutePath}
 use Rattle.acpi_state.specs.Outcomes.{choose}
 use Rattle.asl_tree.specs.Names.{declared_path}
 use Rattle.asl_tree.specs.declared.term.NamedDescriptor.{NamedDescriptor}
 use Rattle.asl_meaning.specs.Declarations.{Declarations, nothing_declared}
-use Rattle.acpi_names.specs.Errors.{NameError, Twice, Missing, AValue, unless, Whole, whole_of}
+use Rattle.acpi_names.specs.Errors.{NameError, Missing, AValue, unless, Whole, whole_of}
 use Rattle.acpi_names.specs.Mentions.{Mention, Used', Sought, Called, Declares, after, mention_errors, all_errors, mention_types, all_types}
 use Rattle.asl_numbers.specs.Numbers.{numbered_all}
 use Rattle.name_checks.specs.Messages.{message_of}
-use Rattle.named_sessions.specs.Places.{IsIn, at_of}
 use Rattle.asl_shape.specs.Plans.{Plans}
 use Rattle.descriptor_fields.specs.Declaring.{declaring}
 use Rattle.descriptor_checks.specs.Resolved.{checked_terms, broken_fields, mentions_of, names_of, table_of}
-use Rattle.descriptor_checks.specs.Told.{fault_of, field_errors, is_below, below_errors, all_below, is_no_field, is_of_no_descriptor, all_field_errors, all_use_faults, names_wrong, fields_wrong, kinds_wrong, names_told, kinds_told}
+use Rattle.descriptor_checks.specs.Told.{fault_of, field_errors, is_below, below_errors, all_below, is_no_field, is_of_no_descriptor, all_field_errors, all_use_faults, names_wrong, kinds_wrong, names_told, kinds_told}
 use Rattle.descriptor_shapes.specs.Places.{PlansWithin}
 use Rattle.descriptor_shapes.proofs.TreePlaces.{numbered_within}
 use Rattle.descriptor_shapes.proofs.MentionPlaces.{IsMentionedIn, AreMentionedIn, block_in}
@@ -26,7 +25,7 @@ module _ (files : ℕ) where
   -- ---- the errors of a mention
 
   abbrev IsErrorIn : NameError → Type 0
-  IsErrorIn e = IsIn files (at_of e)
+  IsErrorIn e = IsTold files (message_of e)
 
   abbrev AreErrorsIn : List NameError → Type 0
   AreErrorsIn = Each IsErrorIn
@@ -95,13 +94,9 @@ module _ (files : ℕ) where
 
   -- ---- messages
 
-  message_in : (e : NameError) → IsErrorIn e → IsTold files (message_of e)
-  message_in (Twice at path) h = h
-  message_in _ h = h
-
   messages_in : (es : List NameError) → AreErrorsIn es → Each (IsTold files) (map message_of es)
   messages_in [] h = tt
-  messages_in (e ∷ es) h = (message_in e h.0, messages_in es h.1)
+  messages_in (e ∷ es) h = (h.0, messages_in es h.1)
 
   -- ---- a block with the terms that declare its descriptors
 
@@ -110,17 +105,10 @@ module _ (files : ℕ) where
     mentions_in = block_in files (numbered_all 0 ps) [] nothing_declared (numbered_within files 0 ps h)
 
     names_in : AreErrorsIn (names_wrong ps)
-    names_in =
-        let test : Mention → Bool = is_no_field (names_of ps) (table_of ps) in
-        both _ _ (all_errors_in (whole_of (numbered_all 0 ps)) (filter test (mentions_of ps)) nothing_declared (each_kept (IsMentionedIn files) test (mentions_of ps) mentions_in))
-        (all_below_in (names_of ps) (table_of ps) (mentions_of ps) mentions_in)
+    names_in = search (both, all_errors_in (whole_of (numbered_all 0 ps)), each_kept (IsMentionedIn files), all_below_in (names_of ps) (table_of ps), mentions_in)
 
     kinds_in : Each (IsTold files) (kinds_wrong ps)
-    kinds_in =
-        let test : Mention → Bool = is_of_no_descriptor (names_of ps) (table_of ps) in
-        let types : List NameError = all_types (whole_of (numbered_all 0 ps)) (filter test (mentions_of ps)) in
-        each_both (IsTold files) _ _ (messages_in types (all_types_in (whole_of (numbered_all 0 ps)) (filter test (mentions_of ps)) (each_kept (IsMentionedIn files) test (mentions_of ps) mentions_in)))
-        (faults_in (names_of ps) (table_of ps) (mentions_of ps) mentions_in)
+    kinds_in = search (each_both (IsTold files), messages_in, all_types_in (whole_of (numbered_all 0 ps)), each_kept (IsMentionedIn files), faults_in (names_of ps) (table_of ps), mentions_in)
 
 -- ---- the block
 
@@ -128,9 +116,7 @@ module _ (files : ℕ) (ps : Plans) (h : PlansWithin files ps) where
   pub names_told_within : All (IsTold files) (names_told ps)
   names_told_within =
       let all : Plans = declaring ps in
-      each_all (IsTold files) (names_told ps)
-      (messages_in files (names_wrong (checked_terms ps) ++ fields_wrong all) (both files _ _ (names_in files (checked_terms ps) (checked_within files ps h))
-      (fields_in files (names_of all) (table_of all) (mentions_of all) (mentions_in files all (declaring_within files ps h)))))
+      each_all (IsTold files) (names_told ps) (search (messages_in files, both files, names_in files, fields_in files (names_of all) (table_of all), mentions_in files, checked_within files, declaring_within files) depth 8)
 
   pub kinds_told_within : All (IsTold files) (kinds_told ps)
   kinds_told_within = each_all (IsTold files) (kinds_told ps) (each_both (IsTold files) _ _ (kinds_in files (checked_terms ps) (checked_within files ps h)) (broken_within files ps h))

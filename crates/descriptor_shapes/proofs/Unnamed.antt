@@ -6,21 +6,20 @@ use Rattle.std.proofs.lemmas.List.{append-nil}
 use Rattle.iasl_messages.specs.declared.place.Place.{Place}
 use Rattle.acpi_values.specs.Paths.{AbsolutePath}
 use Rattle.acpi_state.specs.Objects.{lookup}
-use Rattle.asl_tree.specs.declared.path.Path.{Path}
 use Rattle.asl_tree.specs.declared.term.NamedDescriptor.{NamedDescriptor}
 use Rattle.acpi_names.specs.Errors.{name_errors, type_errors, whole_of}
-use Rattle.acpi_names.specs.Mentions.{Mention, all_errors, all_types}
+use Rattle.acpi_names.specs.Mentions.{Mention}
 use Rattle.acpi_names.specs.Terms.{are_terms}
 use Rattle.asl_numbers.specs.Numbers.{inside, nodes, numbered_all}
 use Rattle.asl_shape.specs.Plans.{Plan, a_fill, a_name, a_call, a_form, Plans, no_plans, plan, plan_at, join}
 use Rattle.asl_shape.specs.Descriptors.{named_of}
 use Rattle.name_checks.specs.Messages.{message_of}
-use Rattle.descriptor_fields.specs.Declaring.{has_terms, names_inside, names_among, alone, beside, is_first, opened, declaring, is_naming, declared_by, closed, stripped, names_descriptor, names_descriptors}
+use Rattle.descriptor_fields.specs.Declaring.{names_inside, names_among, alone, beside, is_first, opened, declaring, declared_by, closed, stripped, names_descriptor, names_descriptors}
 use Rattle.descriptor_fields.specs.Values.{Among, Arguments, Contents, OfCall, is_value_in, is_in_bits}
-use Rattle.descriptor_fields.specs.Constants.{resolved_use, broken_use, resolved, resolved_from, broken, broken_from}
+use Rattle.descriptor_fields.specs.Constants.{resolved, resolved_from, broken, broken_from}
 use Rattle.descriptor_fields.specs.Nodes.{named_in, named_from}
-use Rattle.descriptor_checks.specs.Resolved.{described_by, described, mentions_of, names_of, table_of, fields_of, checked_terms, broken_fields, resolved_terms, described_paths, fields_by, fields_in}
-use Rattle.descriptor_checks.specs.Told.{below_errors, all_below, names_wrong, fields_wrong, kinds_wrong, owners_of, names_told, kinds_told, sense_in, is_no_field, is_of_no_descriptor, all_field_errors, use_faults, all_use_faults}
+use Rattle.descriptor_checks.specs.Resolved.{described, mentions_of, names_of, table_of, fields_of, checked_terms, broken_fields, resolved_terms, described_paths, fields_in}
+use Rattle.descriptor_checks.specs.Told.{all_below, names_wrong, fields_wrong, kinds_wrong, owners_of, names_told, kinds_told, sense_in, is_no_field, is_of_no_descriptor, all_field_errors, use_faults, all_use_faults}
 use Rattle.descriptor_checks.specs.Told.{field_owners}
 use Rattle.descriptor_shapes.proofs.Each.{each_of, Each}
 use Rattle.asl_meaning.specs.Declarations.{nothing_declared}
@@ -44,30 +43,17 @@ module _ (has : AbsolutePath → Bool) (look : AbsolutePath → Option NamedDesc
     pub faults : all_use_faults has look ms ≡ []
     pub owners : field_owners has look ms ≡ []
 
-  fields_none : (m : Mention) → IsOfNone m → fields_by has look m ≡ []
-  fields_none m h = grind arith
-
   pub are_nothing : (ms : List Mention) → Each IsOfNone ms → AreNothing ms
-  are_nothing [] h = record { no_fields = refl; no_descriptors = refl; fields = refl; errors = refl; faults = refl; owners = refl }
+  are_nothing [] h = search
   are_nothing (m ∷ ms) h =
-      let k : AreNothing ms = are_nothing ms h.1 in
-      record {
-        no_fields = rw (h.0, k.no_fields);
-        no_descriptors = rw (h.0, k.no_descriptors);
-        fields = rw (fields_none m h.0) k.fields;
-        errors = rw h.0 k.errors;
-        faults = rw h.0 k.faults;
-        owners = rw h.0 k.owners;
-      }
+      let k : AreNothing ms = are_nothing ms h.1 in search arith
 
   -- a use of a descriptor and of a field of one has a fault
-  no_sense : (m : Mention) → use_faults has look m ≡ [] → IsOfNone m
-  no_sense m e = grind arith
-
   pub no_senses : (ms : List Mention) → all_use_faults has look ms ≡ [] → Each (IsOfNone) ms
   no_senses [] e = tt
   no_senses (m ∷ ms) e =
-      (no_sense m (left_none (use_faults has look m) (all_use_faults has look ms) e), no_senses ms (right_none (use_faults has look m) (all_use_faults has look ms) e))
+      let k : use_faults has look m ≡ [] = left_none (use_faults has look m) (all_use_faults has look ms) e in
+      (grind arith, no_senses ms (right_none (use_faults has look m) (all_use_faults has look ms) e))
 
 -- ---- terms of which this holds
 
@@ -76,17 +62,10 @@ module _ (ps : Plans) where
   HaveNone = AreNothing (names_of ps) (table_of ps) (mentions_of ps)
 
   pub names_are : HaveNone → are_terms (numbered_all 0 ps) ≡ true → names_wrong ps ≡ name_errors (numbered_all 0 ps) ++ all_below (table_of ps) (mentions_of ps)
-  names_are none are =
-      let whole = whole_of (numbered_all 0 ps) in
-      ap (λ ms. all_errors whole ms nothing_declared ++ all_below (table_of ps) (mentions_of ps)) none.no_fields
-      ∙ ap (λ es. es ++ all_below (table_of ps) (mentions_of ps)) (sym (block_errors whole (numbered_all 0 ps) are [] nothing_declared))
+  names_are none are = rw (none.no_fields, block_errors (whole_of (numbered_all 0 ps)) (numbered_all 0 ps) are [] nothing_declared)
 
   pub kinds_are : HaveNone → are_terms (numbered_all 0 ps) ≡ true → name_errors (numbered_all 0 ps) ≡ [] → kinds_wrong ps ≡ map message_of (type_errors (numbered_all 0 ps))
-  kinds_are none are right =
-      let whole = whole_of (numbered_all 0 ps) in
-      ap (λ ms. map message_of (all_types whole ms) ++ all_use_faults (names_of ps) (table_of ps) (mentions_of ps)) none.no_descriptors
-      ∙ ap (λ ms. map message_of (all_types whole (mentions_of ps)) ++ ms) none.faults ∙ append-nil (map message_of (all_types whole (mentions_of ps)))
-      ∙ ap (map message_of) (sym (block_types whole (numbered_all 0 ps) are [] nothing_declared right))
+  kinds_are none are right = rw (none.no_descriptors, none.faults, block_types (whole_of (numbered_all 0 ps)) (numbered_all 0 ps) are [] nothing_declared right, append-nil)
 
 -- ---- a block in which no descriptor has a name
 
@@ -113,14 +92,7 @@ mutual
       let h = or_parts (names_descriptors args) (names_descriptors body) e in
       let a : AreBare args = are_bare args h.0 in
       let b : AreBare body = are_bare body h.1 in
-      let none : declared_by (a_form op args body) ≡ [] = rw a.4 (either (is_naming op) []) in (
-        rw (a.0, b.0) (either (has_terms op) []),
-        rw b.1 (ap (a_form op args) (either (has_terms op) body)),
-        rw b.2 (ap (a_form op args) (either (has_terms op) body)),
-        none,
-        refl,
-        λ next. rw (b.5 (next + nodes args), none) (either (has_terms op) []),
-      )
+      search (a.0, a.4, b.0, b.1, b.2, b.5, either)
   is_bare _ e = (refl, refl, refl, refl, refl, λ next. refl)
 
   are_bare : (ps : Plans) → names_descriptors ps ≡ false → AreBare ps
@@ -129,38 +101,29 @@ mutual
       let h = or_parts (names_descriptor p) (names_descriptors ps) e in
       let a : IsBare p = is_bare p h.0 in
       let b : AreBare ps = are_bare ps h.1 in
-      (rw (a.0, b.0), rw (a.0, a.1, b.1) (beside_none (is_first p) place p ps), rw (a.3, a.2, b.2), a.4, b.3, λ next. rw (a.5 (suc next), b.5 (suc (next + inside p))))
-
-none_by : (m : Mention) → described_by [] m ≡ []
-none_by m = grind arith
+      search (a.0, a.1, a.2, a.3, a.5, b.0, b.1, b.2, b.5, beside_none (is_first p) place p ps)
 
 none_described : (ms : List Mention) → described [] ms ≡ []
 none_described [] = refl
-none_described (m ∷ ms) = rw (none_by m) (none_described ms)
+none_described (m ∷ ms) = let k = none_described ms in grind arith
 
 abbrev no_descriptor : AbsolutePath → Option NamedDescriptor
 no_descriptor path = None
 
--- no mention is of a descriptor
+-- no mention is of a descriptor, and nothing is declared below one
 
 mention_none : (has : AbsolutePath → Bool) (m : Mention) → IsOfNone has no_descriptor m
 mention_none has m = grind arith
 
-declared_below : (m : Mention) → below_errors no_descriptor m ≡ []
-declared_below m = grind arith
-
 no_below : (ms : List Mention) → all_below no_descriptor ms ≡ []
 no_below [] = refl
-no_below (m ∷ ms) = rw (declared_below m) (no_below ms)
+no_below (m ∷ ms) = let k = no_below ms in grind arith
 
 -- no field is a constant
 
-use_same : (bits value : Bool) (name : Path) (place : Place) → (resolved_use bits value name None ≡ a_name name) × (broken_use bits value place None ≡ [])
-use_same bits value name place = (grind arith, grind arith)
-
 mutual
   same : (bits value : Bool) (place : Place) (node : ℕ) (p : Plan) → (resolved [] bits value node p ≡ p) × (broken [] bits value place node p ≡ [])
-  same bits value place node (a_name name) = use_same bits value name place
+  same bits value place node (a_name name) = (grind arith, grind arith)
   same bits value place node (a_call name args) = let h = all_same OfCall 0 bits (suc node) args in (ap (a_call name) h.0, h.1)
   same bits value place node (a_form op args body) =
       let h = all_same (Arguments op) 0 bits (suc node) args in
@@ -211,11 +174,7 @@ module _ (ps : Plans) (e : names_descriptors ps ≡ false) where
   unnamed_names are =
       ap (λ qs. map message_of (names_wrong qs ++ fields_wrong (declaring ps))) unnamed_checked
       ∙ ap (λ qs. map message_of (names_wrong ps ++ fields_wrong qs)) bare.1
-      ∙ ap (λ es. map message_of (names_wrong ps ++ es)) none.errors
-      ∙ ap (λ es. map message_of (es ++ [])) (names_are ps none are)
-      ∙ ap (λ look. map message_of ((name_errors (numbered_all 0 ps) ++ all_below look (mentions_of ps)) ++ [])) table_none
-      ∙ ap (λ es. map message_of ((name_errors (numbered_all 0 ps) ++ es) ++ [])) (no_below (mentions_of ps))
-      ∙ ap (map message_of) (append-nil (name_errors (numbered_all 0 ps) ++ []) ∙ append-nil (name_errors (numbered_all 0 ps)))
+      ∙ rw (none.errors, names_are ps none are, table_none, no_below (mentions_of ps)) (simp append-nil)
 
   pub unnamed_kinds : are_terms (numbered_all 0 ps) ≡ true → name_errors (numbered_all 0 ps) ≡ [] → kinds_told ps ≡ map message_of (type_errors (numbered_all 0 ps))
   unnamed_kinds are right =
