@@ -1,8 +1,8 @@
 //! Lines to tokens.
-ghost use Rattle.std.specs.Prelude.{◌≡◌, ℕ, ◌++◌, ◌∷◌, ◌<◌, ◌≤◌, ◌^◌, [], List as AList, length, All, IfOk, IfErr, Ok, Err};
+ghost use Rattle.std.specs.Prelude.{◌≡◌, ℕ, ◌++◌, ◌∷◌, ◌<◌, ◌≤◌, ◌^◌, [], List as AList, length, All, IfOk, OnOk, IfErr, Ok, Err};
 ghost use Rattle.asl_lexer.specs.declared.token.Token.{Token};
 ghost use Rattle.asl_lexer.specs.Scan as spec;
-ghost use Rattle.asl_lexer.specs.Scan.{MarkedByte, Moves, Gives};
+ghost use Rattle.asl_lexer.specs.Scan.{MarkedByte, Moves, Gives, Fails};
 ghost use Rattle.asl_lexer.specs.Cut.{IsCut, HasFault, Explains};
 ghost use Rattle.asl_lexer.specs.Fine.{IsFine};
 ghost use Rattle.asl_lexer.specs.Within.{IsWithin};
@@ -21,6 +21,7 @@ use iasl_messages::number::{BAD_CHARACTER, OPEN_COMMENT, OPEN_STRING};
 use iasl_messages::place::{Line, Lines, Place};
 use iasl_ports::list::{List, Text, behind};
 use std::alloc::{AllocError, Global};
+use std::mem::replace;
 
 fn step(
     alloc: Global,
@@ -176,35 +177,51 @@ fn scan_behind(
     Ok(mode)
 }
 
+// A line. The mode stays where it is, since mostly no token is open, before and behind.
 #[inline(always)]
-fn scan_line(alloc: Global, tokens: &mut Tokens, mode: Mode, line: &Line) -> Result<Mode, LexerStop>
+fn scan_line(
+    alloc: Global,
+    tokens: &mut Tokens,
+    mode: &mut Mode,
+    line: &Line,
+) -> Result<(), LexerStop>
     requires { length line.now.text < 2 ^ 32 }
-    ensures { (rest : AList MarkedByte) → AtBreak rest →
-        Leads result tokens.new rest (spec.scan (line_marks line.now ++ rest) mode tokens.old) }
+    ensures goes { OnOk result ((rest : AList MarkedByte) → AtBreak rest →
+        spec.scan (line_marks line.now ++ rest) mode.old tokens.old ≡ spec.scan rest mode.new tokens.new) }
+    ensures fails { IfErr result (λ stop. (rest : AList MarkedByte) → AtBreak rest →
+        Fails stop (spec.scan (line_marks line.now ++ rest) mode.old tokens.old)) }
 {
-    let index = over_runs(alloc, tokens, &mode, line, 0)?;
+    let index = over_runs(alloc, tokens, mode, line, 0)?;
     if index >= line.text.as_bytes().len() {
-        return Ok(mode);
+        return Ok(());
     }
-    scan_behind(alloc, tokens, mode, line, index)
+    *mode = scan_behind(alloc, tokens, replace(mode, Mode::Between), line, index)?;
+    Ok(())
 }
 
 // The end of the line before, and a line.
 #[inline(always)]
-fn next_line(alloc: Global, tokens: &mut Tokens, mode: Mode, line: &Line) -> Result<Mode, LexerStop>
+fn next_line(
+    alloc: Global,
+    tokens: &mut Tokens,
+    mode: &mut Mode,
+    line: &Line,
+) -> Result<(), LexerStop>
     requires { length line.now.text < 2 ^ 32 }
-    ensures { (rest : AList MarkedByte) → AtBreak rest →
-        Leads result tokens.new rest (spec.scan (break_mark line.now ∷ line_marks line.now ++ rest) mode tokens.old) }
+    ensures goes { OnOk result ((rest : AList MarkedByte) → AtBreak rest →
+        spec.scan (break_mark line.now ∷ line_marks line.now ++ rest) mode.old tokens.old ≡ spec.scan rest mode.new tokens.new) }
+    ensures fails { IfErr result (λ stop. (rest : AList MarkedByte) → AtBreak rest →
+        Fails stop (spec.scan (break_mark line.now ∷ line_marks line.now ++ rest) mode.old tokens.old)) }
 {
     if let Mode::Between = mode {
-        return scan_line(alloc, tokens, Mode::Between, line);
+        return scan_line(alloc, tokens, mode, line);
     }
     let at = Place {
         file: line.file,
         line: line.number,
         column: 0,
     };
-    let mode = step(alloc, tokens, mode, at, b'\n')?;
+    *mode = step(alloc, tokens, replace(mode, Mode::Between), at, b'\n')?;
     scan_line(alloc, tokens, mode, line)
 }
 
@@ -218,20 +235,32 @@ fn next_lines(
     ensures { Leads result tokens.new [] (spec.scan (following lines.now) mode tokens.old) }
 {
     for line in lines {
-        mode = next_line(alloc, tokens, mode, line)?;
+        next_line(alloc, tokens, &mut mode, line)?;
     }
     Ok(mode)
+}
+
+// The most tokens that there is room for at once.
+const ROOM: usize = 65536;
+
+// No tokens yet, and room for as many as lines mostly have.
+fn no_tokens(alloc: Global, lines: &[Line]) -> Result<Tokens, AllocError>
+    ensures { IfOk result (λ tokens. tokens ≡ []) }
+{
+    let room = lines.len().saturating_mul(4).min(ROOM);
+    Ok(List::from_vec(Vec::with_capacity(alloc, room)?))
 }
 
 fn all(alloc: Global, lines: &[Line]) -> Result<Tokens, LexerStop>
     requires { All (λ line. length line.text < 2 ^ 32) lines.now }
     ensures { Gives result (tokens_of lines.now) }
 {
-    let mut tokens = List::new(alloc);
+    let mut tokens = no_tokens(alloc, lines)?;
     let [first, others @ ..] = lines else {
         return Ok(tokens);
     };
-    let mode = scan_line(alloc, &mut tokens, Mode::Between, first)?;
+    let mut mode = Mode::Between;
+    scan_line(alloc, &mut tokens, &mut mode, first)?;
     let mode = next_lines(alloc, &mut tokens, mode, others)?;
     finish(alloc, tokens, mode)
 }

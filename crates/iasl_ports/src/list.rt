@@ -225,6 +225,21 @@ impl Text {
         Text::from_vec(alloc, bytes.to_vec(alloc)?)
     }
 
+    /// A text of its own of the same bytes.
+    pub fn copy(&self, alloc: Global) -> Result<Text, AllocError>
+        ensures { IfOk result (λ copied. copied ≡ self.now) }
+    {
+        match &self.bytes {
+            Bytes::Inline { bytes, count } => Ok(Text {
+                bytes: Bytes::Inline {
+                    bytes: *bytes,
+                    count: *count,
+                },
+            }),
+            _ => Text::from_bytes(alloc, self.as_bytes()),
+        }
+    }
+
     /// A text of the same bytes with their letters in upper case.
     pub fn from_uppercase(alloc: Global, bytes: &[u8]) -> Result<Text, AllocError>
         ensures { IfOk result (λ text. text ≡ map to_ascii_uppercase bytes.now) }
