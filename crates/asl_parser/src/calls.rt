@@ -11,7 +11,7 @@ ghost use Rattle.asl_parser.specs.declared.frame.ParserState.TheVariants as stat
 
 use crate::mark::{Look, Spot, look_of};
 use crate::open::FrameKind;
-use crate::plain::hold_plain;
+use crate::plain::{hold_plain, is_plain};
 use crate::sign::Sign;
 use crate::stack::Stack;
 use crate::stage::Stage;
@@ -50,6 +50,9 @@ fn hold_argument(
 ) -> Result<Arguments, AllocError>
     ensures { IfOk result (λ read. HoldsArgument read (mark number first.now ∷ mark (suc number) second.now ∷ []) stack.old stack.new) }
 {
+    if !is_plain(first.kind) {
+        return Ok(Arguments::Unread);
+    }
     let read = behind_argument(second);
     if let Arguments::Unread = read {
         return Ok(Arguments::Unread);

@@ -1,5 +1,5 @@
 //! The levels of trees.
-ghost use Rattle.std.specs.Prelude.{◌≡◌, ◌∷◌, [], ◌++◌, ◌+◌, ◌<◌, ◌≤◌, take, length, IfOk, OnOk};
+ghost use Rattle.std.specs.Prelude.{◌≡◌, ◌∷◌, [], ◌++◌, ◌+◌, ◌-◌, ◌<◌, ◌≤◌, take, length, IfOk, OnOk};
 ghost use Rattle.asl_parser.specs.Levels.{firsts_of};
 ghost use Rattle.asl_parser.specs.Grow as spec;
 
@@ -79,6 +79,17 @@ fn with(mut firsts: [u32; FEW], count: usize, first: u32) -> [u32; FEW]
     ensures { take (count + 1) result ≡ take count firsts ++ first ∷ [] }
 {
     firsts[count] = first;
+    firsts
+}
+
+// The first so many numbers, with others in place of the last of them.
+fn ended(mut firsts: [u32; FEW], count: usize, others: &[u32]) -> [u32; FEW]
+    requires within { length others.now ≤ count }
+    requires few { count ≤ 5 }
+    ensures { take count result ≡ take (count - length others.now) firsts ++ others.now }
+{
+    let (_, last) = firsts.split_at_mut(count - others.len());
+    last.split_at_mut(others.len()).0.copy_from_slice(others);
     firsts
 }
 
@@ -169,7 +180,7 @@ impl Levels {
     /// Puts trees behind these.
     #[inline(always)]
     #[tactic(auto, unfolding(crate::specs::Grow::merged), using(crate::proofs::Heights::merged_same, crate::proofs::Merged::merged_none))]
-    pub fn join(&mut self, alloc: Global, later: Levels) -> Result<(), AllocError>
+    pub fn join(&mut self, later: Levels) -> Result<(), AllocError>
         ensures { OnOk result (self.new ≡ spec.merged self.old later) }
     {
         let few = self.len();
@@ -180,7 +191,7 @@ impl Levels {
             *self = later;
             return Ok(());
         }
-        self.lift(alloc, later)
+        self.lift(later)
     }
 
     /// Puts a tree of one node behind these, with this first token.
@@ -196,11 +207,12 @@ impl Levels {
 
     // Puts trees of more levels behind these.
     #[inline(never)]
-    fn lift(&mut self, alloc: Global, later: Levels) -> Result<(), AllocError>
+    fn lift(&mut self, later: Levels) -> Result<(), AllocError>
+        requires { length self.old < length later }
         ensures { OnOk result (self.new ≡ spec.merged self.old later) }
     {
-        let levels = replace(self, Levels::new(alloc));
-        *self = levels.beside(later)?;
+        let levels = later.behind(self.as_slice())?;
+        *self = levels;
         Ok(())
     }
 
@@ -225,33 +237,26 @@ impl Levels {
         }
     }
 
-    // With trees behind these. The time is that of the fewer levels.
+    // With trees of fewer levels before these. The time is that of the fewer levels.
     #[tactic(auto, unfolding(crate::specs::Grow::merged), using(crate::proofs::Heights::merged_same, crate::proofs::Merged::merged_none))]
-    fn beside(self, later: Levels) -> Result<Levels, AllocError>
-        ensures { IfOk result (λ all. all ≡ spec.merged self later) }
+    fn behind(self, earlier: &[u32]) -> Result<Levels, AllocError>
+        requires { length earlier.now < length self }
+        ensures { IfOk result (λ all. all ≡ spec.merged earlier.now self) }
     {
-        let few = self.len();
-        let many = later.len();
-        if many <= few {
-            return Ok(self);
-        }
-        if few == 0 {
-            return Ok(later);
-        }
-        let Levels { firsts } = later;
+        let few = earlier.len();
+        let many = self.len();
+        let Levels { firsts } = self;
         match firsts {
-            Firsts::Few {
-                firsts,
-                count,
-                alloc,
-            } => both(
-                alloc,
-                front(front(&firsts, count as usize), many - few),
-                self.as_slice(),
-            ),
+            Firsts::Few { firsts, alloc, .. } => Ok(Levels {
+                firsts: Firsts::Few {
+                    firsts: ended(firsts, many, earlier),
+                    count: many as u8,
+                    alloc,
+                },
+            }),
             Firsts::Many(mut firsts) => {
                 firsts.truncate(many - few);
-                firsts.extend_from_slice(self.as_slice())?;
+                firsts.extend_from_slice(earlier)?;
                 Ok(Levels {
                     firsts: Firsts::Many(firsts),
                 })

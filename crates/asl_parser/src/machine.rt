@@ -16,13 +16,13 @@ ghost use Rattle.asl_parser.specs.declared.frame.ParserState.TheVariants as stat
 ghost use Rattle.asl_parser.specs.declared.stage.Stage.TheVariants as stages;
 
 use crate::frame::{LOOSEST, Refusal};
-use crate::mark::{Look, Spot, look_of};
+use crate::mark::{Look, Spot};
 use crate::open::FrameKind;
 use crate::raw::{Infix, Raw};
 use crate::sign::{Sign, Strength, strength_of};
 use crate::stack::Stack;
 use crate::stage::Stage;
-use crate::subtree::Subtrees;
+use crate::subtree::BoxedSubtrees;
 use asl_lexer::token::Token;
 use iasl_ports::list::Text;
 use std::alloc::AllocError;
@@ -475,7 +475,7 @@ fn open_body(
     stage: &mut Stage,
     spot: Spot,
     word: Text,
-    args: Option<Subtrees>,
+    args: Option<BoxedSubtrees>,
 ) -> Result<(), Refusal>
     requires { stack.old.0 ≡ no_subtrees }
     ensures { StepsTo result stage.new stack.new (Some (states.Sequence, frames.Body spot word args no_subtrees ∷ stack.old.1)) }
@@ -523,7 +523,7 @@ fn after_called(
 {
     match look {
         Look::Sign(Sign::LeftBrace) => {
-            let args = stack.take()?;
+            let args = stack.take_boxed()?;
             open_body(stack, stage, place, word, Some(args))
         }
         _ => {
@@ -658,15 +658,22 @@ fn first_element(
 
 /// What a token does to what was read last and to what is open.
 #[inline(never)]
-pub fn step(stack: &mut Stack, stage: &mut Stage, number: u32, token: &Token) -> Result<(), Refusal>
-    requires { Holds stage.old stack.old.0 }
+pub fn step(
+    stack: &mut Stack,
+    stage: &mut Stage,
+    number: u32,
+    look: Look,
+    token: &Token,
+) -> Result<(), Refusal>
+    requires holds { Holds stage.old stack.old.0 }
+    // How the token looks.
+    requires look { lexeme_of look token.now ≡ lexeme token.now }
     ensures { StepsTo result stage.new stack.new (spec.step (mark number token.now) (state_of stage.old stack.old.0) stack.old.1) }
 {
     let spot = Spot {
         token: number,
         place: token.place,
     };
-    let look = look_of(token);
     match stage {
         Stage::Operand => begin(stack, stage, spot, look, token),
         Stage::FirstArgument => first_argument(stack, stage, spot, look, token),

@@ -6,7 +6,7 @@ use crate::frame::LOOSEST;
 use crate::levels::Levels;
 use crate::mark::Spot;
 use crate::raw::Infix;
-use crate::subtree::Subtrees;
+use crate::subtree::BoxedSubtrees;
 use iasl_ports::list::Text;
 use std::alloc::Global;
 
@@ -46,7 +46,7 @@ pub enum FrameKind {
     Body {
         spot: Spot,
         word: Text,
-        args: Option<Subtrees>,
+        args: Option<BoxedSubtrees>,
     },
     Bracket,
     Index {

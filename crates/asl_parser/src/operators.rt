@@ -1,5 +1,5 @@
 //! An operator between two operands, which is read with its last operand where that is one token.
-ghost use Rattle.std.specs.Prelude.{◌≡◌, ◌+◌, ◌^◌, ◌<◌, length, IfOk, OnOk};
+ghost use Rattle.std.specs.Prelude.{◌≡◌, ◌+◌, ◌^◌, ◌<◌, length, get_or, IfOk, OnOk};
 ghost use Rattle.asl_parser.specs.Grow.{limit, no_subtrees};
 ghost use Rattle.asl_parser.specs.Machine.{depth};
 ghost use Rattle.asl_parser.specs.Marks.{mark, marks, lexeme};
@@ -7,6 +7,8 @@ ghost use Rattle.asl_parser.specs.Opens.{IsOne};
 ghost use Rattle.asl_parser.specs.Operating as spec;
 ghost use Rattle.asl_parser.specs.Operating.{AppliesNode, MayOperate, MayBracket};
 ghost use Rattle.asl_parser.specs.Pairs.{plain};
+ghost use Rattle.asl_parser.specs.declared.mark.Lexeme.TheVariants as lexemes;
+ghost use Rattle.asl_parser.specs.declared.sign.Sign.TheVariants as signs;
 
 use crate::frame::Refusal;
 use crate::machine::settle;
@@ -62,19 +64,18 @@ fn apply_plain(
 pub fn operate(
     stack: &mut Stack,
     number: u32,
+    op: Infix,
     sign: &Token,
     operand: &Token,
     next: &Token,
 ) -> Result<bool, Refusal>
     requires number { number + 1 < 2 ^ 32 }
+    requires sign { lexeme sign.now ≡ lexemes.Sign (signs.Binary op) }
     requires one { IsOne stack.old.0 }
     requires low { depth stack.old.1 < limit }
     ensures { MayOperate result (mark number sign.now) (mark (number + 1) operand.now) (mark (number + 2) next.now)
         stack.old stack.new }
 {
-    let Look::Sign(Sign::Binary(op)) = look_of(sign) else {
-        return Ok(false);
-    };
     let Some(strength) = strength_of(op) else {
         return Ok(false);
     };
@@ -95,16 +96,25 @@ pub fn operate(
 
 /// Reads an expression in parentheses that is an operator between two tokens, from this place on. Answers whether it was read.
 #[inline(never)]
-pub fn bracket(stack: &mut Stack, tokens: &[Token], at: usize) -> Result<bool, AllocError>
+pub fn bracket(
+    stack: &mut Stack,
+    tokens: &[Token],
+    at: usize,
+    first: &Token,
+) -> Result<bool, AllocError>
     requires few { length tokens.now < 2 ^ 32 }
     requires within { at + 4 < length tokens.now }
+    requires first { first.now ≡ get_or tokens.now at first.now }
+    requires paren { lexeme first.now ≡ lexemes.Sign signs.LeftParen }
     requires none { stack.old.0 ≡ no_subtrees }
     requires low { depth stack.old.1 + 1 < limit }
     ensures { IfOk result (λ is_read. MayBracket is_read (marks 0 tokens.now) at stack.old stack.new) }
 {
-    let Look::Sign(Sign::LeftParen) = look_of(&tokens[at]) else {
+    let left = &tokens[at + 1];
+    let right = &tokens[at + 3];
+    if stack.room() < 1 || !is_plain(left.kind) || !is_plain(right.kind) {
         return Ok(false);
-    };
+    }
     let Look::Sign(Sign::RightParen) = look_of(&tokens[at + 4]) else {
         return Ok(false);
     };
@@ -115,11 +125,6 @@ pub fn bracket(stack: &mut Stack, tokens: &[Token], at: usize) -> Result<bool, A
     let Some(_strength) = strength_of(op) else {
         return Ok(false);
     };
-    let left = &tokens[at + 1];
-    let right = &tokens[at + 3];
-    if stack.room() < 1 || !is_plain(left.kind) || !is_plain(right.kind) {
-        return Ok(false);
-    }
     // They are expressions: that was asked.
     if !hold_plain(stack, at as u32 + 1, left)? {
         return Err(AllocError);

@@ -1,5 +1,5 @@
 //! From tokens to the tree.
-ghost use Rattle.std.specs.Prelude.{◌≡◌, ◌+◌, ◌<◌, ◌≤◌, ◌^◌, ℕ, true, length, get_or, List, All, IfOk, OnOk, IfErr};
+ghost use Rattle.std.specs.Prelude.{◌≡◌, ◌+◌, ◌<◌, ◌≤◌, ◌^◌, ℕ, true, length, get_or, List, All, IfSome, IfOk, OnOk, IfErr};
 ghost use Rattle.asl_parser.specs.Looks.{lexeme_of};
 ghost use Rattle.asl_parser.specs.Machine as spec;
 ghost use Rattle.asl_parser.specs.Marks.{mark, marks, lexeme};
@@ -25,7 +25,7 @@ use crate::machine::{end_expression, hold_word, step, word_on};
 use crate::mark::{Look, is_word, look_of};
 use crate::operators::{bracket, operate};
 use crate::pairs::skip_pair;
-use crate::raw::RawUnit;
+use crate::raw::{Infix, RawUnit};
 use crate::sign::Sign;
 use crate::stack::Stack;
 use crate::stage::{Stage, begins, ends};
@@ -88,16 +88,20 @@ fn moved(stack: &Stack, made: Result<(), Refusal>, at: usize) -> Result<usize, S
     Ok(at + 1)
 }
 
-// Reads the token at a place.
+// Reads the token at a place, which looks so.
 #[inline(always)]
 fn single(
     stack: &mut Stack,
     stage: &mut Stage,
     tokens: &[Token],
     at: usize,
+    token: &Token,
+    look: Look,
 ) -> Result<usize, Syntax>
     requires few { length tokens.now < 2 ^ 32 }
     requires within { at < length tokens.now }
+    requires token { token.now ≡ get_or tokens.now at token.now }
+    requires look { lexeme_of look token.now ≡ lexeme token.now }
     requires holds { Holds stage.old stack.old.0 }
     requires low { spec.depth stack.old.1 ≤ limit }
     ensures advances { IfOk result (λ next. Advances (marks 0 tokens.now) at next (state_of stage.old stack.old.0, stack.old.1)
@@ -105,7 +109,7 @@ fn single(
     ensures holds { OnOk result (Holds stage.new stack.new.0) }
     ensures fails { IfErr result (λ fault. FailsAt fault (marks 0 tokens.now) at (state_of stage.old stack.old.0, stack.old.1)) }
 {
-    let made = step(stack, stage, at as u32, &tokens[at]);
+    let made = step(stack, stage, at as u32, look, token);
     moved(stack, made, at)
 }
 
@@ -116,6 +120,22 @@ fn is_operator(look: Look) -> bool
     matches!(look, Look::Sign(Sign::Binary(_)))
 }
 
+// The operator between two operands that looks so.
+fn operator_of(look: Look) -> Option<Infix>
+    ensures { IfSome result (λ op. look ≡ looks.Sign (signs.Binary op)) }
+{
+    match look {
+        Look::Sign(Sign::Binary(op)) => Some(op),
+        _ => None,
+    }
+}
+
+fn is_left_paren(look: Look) -> bool
+    ensures { result ≡ true → look ≡ looks.Sign signs.LeftParen }
+{
+    matches!(look, Look::Sign(Sign::LeftParen))
+}
+
 // Reads the token behind an expression, which is held, and where it is an operator its last operand, if that can be.
 #[inline(always)]
 fn operated(
@@ -123,9 +143,13 @@ fn operated(
     stage: &mut Stage,
     tokens: &[Token],
     at: usize,
+    token: &Token,
+    look: Look,
 ) -> Result<usize, Syntax>
     requires few { length tokens.now < 2 ^ 32 }
     requires within { at < length tokens.now }
+    requires token { token.now ≡ get_or tokens.now at token.now }
+    requires look { lexeme_of look token.now ≡ lexeme token.now }
     requires whole { stage.old ≡ stages.Whole }
     requires holds { Holds stage.old stack.old.0 }
     requires low { spec.depth stack.old.1 ≤ limit }
@@ -134,18 +158,22 @@ fn operated(
     ensures holds { OnOk result (Holds stage.new stack.new.0) }
     ensures fails { IfErr result (λ fault. FailsAt fault (marks 0 tokens.now) at (state_of stage.old stack.old.0, stack.old.1)) }
 {
+    let Some(op) = operator_of(look) else {
+        return single(stack, stage, tokens, at, token, look);
+    };
     if tokens.len() - at <= 2 || DEEPEST <= stack.depth() {
-        return single(stack, stage, tokens, at);
+        return single(stack, stage, tokens, at, token, look);
     }
     match operate(
         stack,
         at as u32,
-        &tokens[at],
+        op,
+        token,
         &tokens[at + 1],
         &tokens[at + 2],
     ) {
         Ok(true) => Ok(at + 2),
-        Ok(false) => single(stack, stage, tokens, at),
+        Ok(false) => single(stack, stage, tokens, at, token, look),
         Err(Refusal::Refused) => Err(Syntax::Stop { token: at as u32 }),
         Err(Refusal::Memory) => Err(Syntax::Memory),
     }
@@ -154,9 +182,18 @@ fn operated(
 // Reads the token at a place where an expression may begin, or where it begins an operator between two tokens in parentheses
 // all five.
 #[inline(always)]
-fn begun(stack: &mut Stack, stage: &mut Stage, tokens: &[Token], at: usize) -> Result<usize, Syntax>
+fn begun(
+    stack: &mut Stack,
+    stage: &mut Stage,
+    tokens: &[Token],
+    at: usize,
+    token: &Token,
+    look: Look,
+) -> Result<usize, Syntax>
     requires few { length tokens.now < 2 ^ 32 }
     requires within { at < length tokens.now }
+    requires token { token.now ≡ get_or tokens.now at token.now }
+    requires look { lexeme_of look token.now ≡ lexeme token.now }
     requires begins { stage_begins stage.old ≡ true }
     requires holds { Holds stage.old stack.old.0 }
     requires low { spec.depth stack.old.1 ≤ limit }
@@ -165,15 +202,15 @@ fn begun(stack: &mut Stack, stage: &mut Stage, tokens: &[Token], at: usize) -> R
     ensures holds { OnOk result (Holds stage.new stack.new.0) }
     ensures fails { IfErr result (λ fault. FailsAt fault (marks 0 tokens.now) at (state_of stage.old stack.old.0, stack.old.1)) }
 {
-    if tokens.len() - at <= 4 || DEEPEST <= stack.depth() + 1 {
-        return single(stack, stage, tokens, at);
+    if !is_left_paren(look) || tokens.len() - at <= 4 || DEEPEST <= stack.depth() + 1 {
+        return single(stack, stage, tokens, at, token, look);
     }
-    match bracket(stack, tokens, at) {
+    match bracket(stack, tokens, at, token) {
         Ok(true) => {
             *stage = Stage::Whole;
             Ok(at + 5)
         }
-        Ok(false) => single(stack, stage, tokens, at),
+        Ok(false) => single(stack, stage, tokens, at, token, look),
         Err(_) => Err(Syntax::Memory),
     }
 }
@@ -183,7 +220,7 @@ fn opens_call(look: Look, depth: usize) -> bool
     ensures paren { result ≡ true → look ≡ looks.Sign signs.LeftParen }
     ensures low { result ≡ true → depth < limit }
 {
-    matches!(look, Look::Sign(Sign::LeftParen)) && depth < DEEPEST
+    is_left_paren(look) && depth < DEEPEST
 }
 
 // Reads the token behind a word or path that begins an expression, and what is read with it.
@@ -217,7 +254,7 @@ fn behind_word(
     }
     if is_operator(look) {
         return match hold_word(stack, stage, at as u32, first) {
-            Ok(()) => operated(stack, stage, tokens, at + 1),
+            Ok(()) => operated(stack, stage, tokens, at + 1, second, look),
             Err(_) => Err(Syntax::Memory),
         };
     }
@@ -248,7 +285,7 @@ fn ahead(stack: &mut Stack, stage: &mut Stage, tokens: &[Token], at: usize) -> R
     if is_word(first.kind) && begins(stage) {
         return behind_word(stack, stage, tokens, at, first, look, second);
     }
-    single(stack, stage, tokens, at)
+    single(stack, stage, tokens, at, first, look_of(first))
 }
 
 // Reads the token behind an expression, and where it is a word or path the token behind that.
@@ -271,7 +308,7 @@ fn next_word(
 {
     let first = &tokens[at];
     if !is_word(first.kind) {
-        return single(stack, stage, tokens, at);
+        return single(stack, stage, tokens, at, first, look_of(first));
     }
     match end_expression(stack, stage) {
         Ok(()) => {}
@@ -299,19 +336,21 @@ fn advance(
     ensures holds { OnOk result (Holds stage.new stack.new.0) }
     ensures fails { IfErr result (λ fault. FailsAt fault (marks 0 tokens.now) at (state_of stage.old stack.old.0, stack.old.1)) }
 {
-    if looks_ahead(stage, &tokens[at]) && 1 < tokens.len() - at {
+    let token = &tokens[at];
+    if looks_ahead(stage, token) && 1 < tokens.len() - at {
         if ends(stage) {
             return next_word(stack, stage, tokens, at);
         }
         return ahead(stack, stage, tokens, at);
     }
+    let look = look_of(token);
     if let Stage::Whole = stage {
-        return operated(stack, stage, tokens, at);
+        return operated(stack, stage, tokens, at, token, look);
     }
     if begins(stage) {
-        return begun(stack, stage, tokens, at);
+        return begun(stack, stage, tokens, at, token, look);
     }
-    single(stack, stage, tokens, at)
+    single(stack, stage, tokens, at, token, look)
 }
 
 fn read(alloc: Global, tokens: &[Token]) -> Result<Subtrees, Syntax>

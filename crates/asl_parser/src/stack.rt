@@ -15,7 +15,7 @@ use crate::levels::Levels;
 use crate::mark::Spot;
 use crate::open::{FrameGroup, FrameKind, OpenFrame, room, weight};
 use crate::raw::{Infix, Raw, Raws};
-use crate::subtree::{Subtrees, TALLEST, apply_raw, given, item_raw, list_raw};
+use crate::subtree::{BoxedSubtrees, Subtrees, TALLEST, apply_raw, given, item_raw, list_raw};
 use iasl_ports::list::Text;
 use std::alloc::{AllocError, Global};
 use std::marker::Model;
@@ -30,6 +30,8 @@ pub struct Stack {
     innermost: OpenFrame,
     hand: FrameGroup,
     depth: usize,
+    // The boxes that were emptied.
+    spare: Vec<Box<Subtrees>>,
 }
 
 // By hand, so that an owner lets go of it by one call (docs/DECISIONS.md).
@@ -42,6 +44,7 @@ impl Drop for Stack {
             innermost: _,
             hand: _,
             depth: _,
+            spare: _,
         } = self;
     }
 }
@@ -135,15 +138,16 @@ fn take_off(alloc: Global, outer: &mut Vec<OpenFrame>, innermost: &mut OpenFrame
     ensures taken { result ≡ innermost.old }
     ensures rest { innermost.new ∷ reverse outer.new.items ≡ remaining (reverse outer.old.items) }
 {
-    let nothing = OpenFrame {
-        kind: FrameKind::Nothing,
-        group: FrameGroup::new(alloc, 0),
-    };
-    let taken = replace(innermost, nothing);
-    if let Some(open) = outer.pop() {
-        *innermost = open;
+    match outer.pop() {
+        Some(open) => replace(innermost, open),
+        None => {
+            let nothing = OpenFrame {
+                kind: FrameKind::Nothing,
+                group: FrameGroup::new(alloc, 0),
+            };
+            replace(innermost, nothing)
+        }
     }
-    taken
 }
 
 impl Stack {
@@ -161,6 +165,7 @@ impl Stack {
             },
             hand: FrameGroup::new(alloc, 0),
             depth: 0,
+            spare: Vec::new(alloc),
         }
     }
 
@@ -169,7 +174,7 @@ impl Stack {
     pub fn copy(&self, text: &Text) -> Result<Text, AllocError>
         ensures { IfOk result (λ copied. copied ≡ text.now) }
     {
-        Text::from_bytes(self.alloc, text.as_bytes())
+        text.copy(self.alloc)
     }
 
     /// How many brackets, prefix operators and assignments stand open.
@@ -300,7 +305,7 @@ impl Stack {
         );
         let group = &mut self.innermost.group;
         group.kept = both(group.kept, kept);
-        group.levels.join(self.alloc, levels)?;
+        group.levels.join(levels)?;
         Ok(())
     }
 
@@ -359,7 +364,7 @@ impl Stack {
         self.depth -= weight(&kind);
         group.kept = both(group.kept, self.hand.kept);
         let last = replace(&mut self.hand, group);
-        self.hand.levels.join(self.alloc, last.levels)?;
+        self.hand.levels.join(last.levels)?;
         Ok(kind)
     }
 
@@ -397,20 +402,31 @@ impl Stack {
         ensures frames { OnOk result (self.new.1 ≡ self.old.1) }
     {
         let later = replace(&mut self.hand.levels, levels);
-        self.hand.levels.join(self.alloc, later)?;
+        self.hand.levels.join(later)?;
         Ok(())
+    }
+
+    // Trees out of their box, which is kept for others.
+    fn unboxed(&mut self, boxed: BoxedSubtrees) -> Result<Subtrees, AllocError>
+        ensures trees { IfOk result (λ trees. trees ≡ boxed) }
+        ensures stack { OnOk result (self.new ≡ self.old) }
+    {
+        let (trees, shell) = boxed.taken(self.alloc);
+        self.spare.push(shell)?;
+        Ok(trees)
     }
 
     // The nodes of a part of an item, whose levels go before those of what is held.
     #[inline(always)]
     #[tactic(auto, using(crate::proofs::Merged::merged_none))]
-    fn go_behind(&mut self, part: Option<Subtrees>) -> Result<Option<Option<Raws>>, AllocError>
+    fn go_behind(&mut self, part: Option<BoxedSubtrees>) -> Result<Option<Option<Raws>>, AllocError>
         ensures raws { IfOk result (λ raws. raws ≡ grow.raws_given part) }
         ensures levels { OnOk result (self.new.0.levels ≡ merged (grow.levels_given part) self.old.0.levels) }
         ensures frames { OnOk result (self.new.1 ≡ self.old.1) }
     {
         match part {
-            Some(Subtrees { raws, levels }) => {
+            Some(boxed) => {
+                let Subtrees { raws, levels } = self.unboxed(boxed)?;
                 self.go_before(levels)?;
                 Ok(given(raws))
             }
@@ -429,6 +445,18 @@ impl Stack {
         let start = self.hand.start;
         let FrameGroup { levels, .. } = replace(&mut self.hand, FrameGroup::new(self.alloc, start));
         Ok(Subtrees { raws, levels })
+    }
+
+    /// Takes what is held away, in a box.
+    pub fn take_boxed(&mut self) -> Result<BoxedSubtrees, AllocError>
+        ensures trees { IfOk result (λ trees. trees ≡ self.old.0) }
+        ensures rest { OnOk result (self.new ≡ (no_subtrees, self.old.1)) }
+    {
+        let trees = self.take()?;
+        match self.spare.pop() {
+            Some(shell) => Ok(BoxedSubtrees::in_box(shell, trees)),
+            None => BoxedSubtrees::new(self.alloc, trees),
+        }
     }
 
     /// Holds an operator over what was held, its operands.
@@ -484,7 +512,7 @@ impl Stack {
         &mut self,
         spot: Spot,
         word: Text,
-        args: Option<Subtrees>,
+        args: Option<BoxedSubtrees>,
     ) -> Result<(), AllocError>
         ensures tree { OnOk result (tree_of self.new.0 ≡ grow.item spot word args (Some self.old.0)) }
         ensures one { OnOk result (IsOne self.new.0) }

@@ -1,11 +1,14 @@
 //! Trees while they grow.
-ghost use Rattle.std.specs.Prelude.{◌≡◌};
+ghost use Rattle.std.specs.Prelude.{◌≡◌, IfOk};
 ghost use Rattle.asl_parser.specs.Grow as spec;
 
 use crate::levels::Levels;
 use crate::mark::Spot;
 use crate::raw::{Infix, Raw, Raws};
 use iasl_ports::list::Text;
+use std::alloc::{AllocError, Global};
+use std::marker::Model;
+use std::mem::replace;
 
 /// The most nodes that a node may stand under.
 pub const TALLEST: usize = 128;
@@ -23,6 +26,62 @@ pub struct Subtree {
 pub struct Subtrees {
     pub raws: Option<Raws>,
     pub levels: Levels,
+}
+
+/// Trees in a box, so that what keeps them is small.
+pub struct BoxedSubtrees {
+    trees: Box<Subtrees>,
+}
+
+// By hand, so that an owner lets go of it by one call (docs/DECISIONS.md).
+impl Drop for BoxedSubtrees {
+    fn drop(self) {
+        let BoxedSubtrees { trees: _ } = self;
+    }
+}
+
+impl Model for BoxedSubtrees {
+    ghost use Rattle.asl_parser.specs.declared.subtree.Subtrees.{Subtrees};
+    ghost use Rattle.asl_parser.specs.contracts.subtree.Subtrees as subtrees_row;
+
+    ghost Value = { Subtrees };
+
+    ghost coded = { subtrees_row.the_row.coded };
+
+    ghost view = { λ boxed. boxed.trees.value };
+}
+
+impl BoxedSubtrees {
+    /// Trees in a box of their own.
+    pub fn new(alloc: Global, trees: Subtrees) -> Result<BoxedSubtrees, AllocError>
+        ensures { IfOk result (λ boxed. boxed ≡ trees) }
+    {
+        Ok(BoxedSubtrees {
+            trees: Box::new(alloc, trees)?,
+        })
+    }
+
+    /// Trees in a box that is there for them.
+    pub fn in_box(shell: Box<Subtrees>, trees: Subtrees) -> BoxedSubtrees
+        ensures { result ≡ trees }
+    {
+        let mut shell = shell;
+        *shell = trees;
+        BoxedSubtrees { trees: shell }
+    }
+
+    /// The trees, and the box without them.
+    pub fn taken(self, alloc: Global) -> (Subtrees, Box<Subtrees>)
+        ensures { result.0 ≡ self }
+    {
+        let BoxedSubtrees { trees: mut shell } = self;
+        let nothing = Subtrees {
+            raws: None,
+            levels: Levels::new(alloc),
+        };
+        let trees = replace(&mut *shell, nothing);
+        (trees, shell)
+    }
 }
 
 /// An operator over its operands.

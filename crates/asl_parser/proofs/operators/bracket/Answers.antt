@@ -11,13 +11,12 @@ use Rattle.asl_parser.proofs.operators.bracket.Goals as goal
 
 pub apply_plain-requires : goal.apply_plain-requires
 apply_plain-requires c =
-    record { one = held_one c.in_ok-hold_plain.field-0 (plain (mark (c.args.at + 1) c.index-tokens-at-4.result)) c.args.stack.now c.hold_plain.new.stack c.if-not-branch.false c.requires.none c.in_ok-hold_plain.ensures }
+    record { one = held_one c.in_ok-hold_plain.field-0 (plain (mark (c.args.at + 1) c.index-tokens-at.result)) c.args.stack.now c.hold_plain.new.stack c.if-not-branch.false c.requires.none c.in_ok-hold_plain.ensures }
 
 pub returns : goal.returns
 returns c =
-    let a = c.args in let t = c.index-tokens-at.result in let u = c.index-tokens-at-4.result in let v = c.index-tokens-at-3.result in let w = c.index-tokens-at-5.result in let x = c.index-tokens-at-2.result in
+    let a = c.args in let t = c.args.first.now in let u = c.index-tokens-at.result in let v = c.index-tokens-at-4.result in let w = c.index-tokens-at-2.result in let x = c.index-tokens-at-3.result in
     let op = c.in-Sign-Binary.op in let m = plain (mark (a.at + 1) u) in let old = a.stack.now in let mid = c.hold_plain.new.stack in let new = c.apply_plain.new.stack in
-    let left : lexeme t ≡ l.Sign s.LeftParen = sym c.in-Sign-LeftParen.ensures ∙ ap l.Sign c.in-Sign-LeftParen.field-0-is in
     let right : lexeme x ≡ l.Sign s.RightParen = sym c.in-Sign-RightParen.ensures ∙ ap l.Sign c.in-Sign-RightParen.field-0-is in
     let sign : lexeme v ≡ l.Sign (s.Binary op) = sym c.in-Sign-Binary.ensures ∙ ap l.Sign c.in-Sign-Binary.field-0-is in
     let made : AppliesNode (plain (mark (a.at + 3) w)) (mark (a.at + 2) v).spot op mid new = c.in_ok-apply_plain.ensures in
@@ -26,6 +25,6 @@ returns c =
     let low : suc (depth old.1) < limit = omega (arith, c.requires.low) in
     let high : 1 ≤ room old.1 = omega (arith, c.if-room-lt1.false, c.room.ensures) in (
       applies_one (plain (mark (a.at + 3) w)) (mark (a.at + 2) v).spot op mid new made,
-      λ q begins. bracket_on a.tokens.now a.at t u v w x q op c.in-Some._strength old mid new c.requires.within c.index-tokens-at.is c.index-tokens-at-4.is c.index-tokens-at-3.is c.index-tokens-at-5.is c.index-tokens-at-2.is low high
-          c.requires.none left holds sign (sym c.in-Some.ensures) made right one begins,
+      λ q begins. bracket_on a.tokens.now a.at t u v w x q op c.in-Some._strength old mid new c.requires.within c.requires.first c.index-tokens-at.is c.index-tokens-at-4.is c.index-tokens-at-2.is c.index-tokens-at-3.is low high
+          c.requires.none c.requires.paren holds sign (sym c.in-Some.ensures) made right one begins,
     )

@@ -1,3 +1,6 @@
+use Rattle.std.proofs.Common.{sym, ap, ◌∙◌}
+use Rattle.asl_parser.specs.declared.mark.Look.{Look}
+use Rattle.asl_parser.specs.Looks.{lexeme_of}
 use Rattle.asl_parser.specs.Marks.{marks}
 use Rattle.asl_parser.specs.Stages.{state_of}
 use Rattle.asl_parser.proofs.Bracketed.{bracket_read, may_begin}
@@ -6,6 +9,9 @@ use Rattle.asl_parser.proofs.reader.begun.Goals as goal
 
 pub bracket-requires-clause-none : goal.bracket-requires-clause-none
 bracket-requires-clause-none c = holds_none c.args.stage.now c.args.stack.now.0 c.requires.begins c.requires.holds
+
+pub bracket-requires-clause-paren : goal.bracket-requires-clause-paren
+bracket-requires-clause-paren c = sym c.requires.look ∙ ap (λ (look : Look). lexeme_of look c.args.token.now) (c.is_left_paren.ensures c.if-not-is_left_paren.false)
 
 pub returns-in-Ok-true-clause-advances : goal.returns-in-Ok-true-clause-advances
 returns-in-Ok-true-clause-advances c =
