@@ -64,14 +64,6 @@ checked_faulty width s place x h = by_faults x.faults h
     by_faults [] h = absurd (h refl)
     by_faults (m ∷ ms) h = refl
 
--- where a slot asks for no more
-pub checked_plain : (width : Width) (s : Slot) (place : Place) (x : Shaped Plan) → evaluated width s place x.made ≡ fine x.made → checked width s place x ≡ x
-checked_plain width s place x e = by_faults x.faults refl
-  where
-    by_faults : (ms : List Message) → x.faults ≡ ms → after ms x (evaluated width s place x.made) ≡ x
-    by_faults [] n = e ∙ sym (ap (λ ms. record { faults = ms; made = x.made }) n)
-    by_faults (m ∷ ms) n = refl
-
 -- the last of some plans is evaluated where it is read with no error
 
 pub clean_faults : (width : Width) (s : Slot) (at place : Place) (x : Shaped Plan) (before mid : Plans) (old read all : List Message) → x.faults ≡ [] → mid ≡ join before (one_plan place x.made) → read ≡ old ++ x.faults

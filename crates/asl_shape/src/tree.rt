@@ -1,6 +1,6 @@
 //! From the tree of the syntax to the program tree. Each part pushes its node behind the others. What is rare is a function of its own
 //! that is not inlined, so that the usual way has a small frame.
-ghost use Rattle.std.specs.Prelude.{None, ◌≡◌, ◌++◌, ◌==◌, ◌&&◌, [], slice_get, length, nat_eq, OnOk, IfOk, IfErr, true, false};
+ghost use Rattle.std.specs.Prelude.{None, Some, ◌≡◌, ◌++◌, ◌==◌, ◌&&◌, [], slice_get, length, nat_eq, OnOk, IfOk, IfErr, true, false};
 ghost use Rattle.asl_shape.specs.Shapes as spec;
 ghost use Rattle.asl_shape.specs.AtRaw as at;
 ghost use Rattle.asl_words.specs.Operators as table;
@@ -526,8 +526,9 @@ pub fn arguments(
     Ok(())
 }
 
-// What stands in braces.
+// What stands in braces, which most forms have not.
 #[cycle(shape)]
+#[inline(always)]
 #[tactic(auto, using(crate::proofs::Shapes::size_rules, crate::proofs::Shapes::content_rules))]
 fn contents(
     alloc: Global,
@@ -543,10 +544,30 @@ fn contents(
     ensures made { OnOk result
         (plans_of nodes.new.items ≡ join (plans_of nodes.old.items) (at.contents_at body inside.now place.now raws.now).made) }
 {
-    let Some(raws) = raws else {
-        return Ok(());
-    };
-    let raws = raws.as_slice();
+    match raws {
+        Some(raws) => Ok(contents_of(alloc, work, nodes, body, inside, place, raws.as_slice())?),
+        None => Ok(()),
+    }
+}
+
+// What stands in braces that are written.
+#[cycle(shape)]
+#[inline(never)]
+#[tactic(auto, using(crate::proofs::Shapes::size_rules, crate::proofs::Shapes::content_rules))]
+fn contents_of(
+    alloc: Global,
+    work: &mut Work,
+    nodes: &mut Vec<Node>,
+    body: Body,
+    inside: &Around,
+    place: &Place,
+    raws: &[Raw],
+) -> Result<(), AllocError>
+    ensures faults { OnOk result
+        (work.new.faults.items ≡ work.old.faults.items ++ (at.contents_at body inside.now place.now (Some raws.now)).faults) }
+    ensures made { OnOk result
+        (plans_of nodes.new.items ≡ join (plans_of nodes.old.items) (at.contents_at body inside.now place.now (Some raws.now)).made) }
+{
     match body {
         Body::No => Ok(()),
         Body::Terms => Ok(terms(alloc, work, nodes, inside, raws)?),

@@ -1,6 +1,6 @@
 -- The tables of the code are those of the definition, letter by letter.
 use Rattle.std.proofs.Common.{Bor, ◌≡◌, ◌⊎◌, inl, inr, List, [], ◌∷◌, ◌++◌, map, length, take, drop, get_or, ℕ, zero, suc, ◌+◌, ◌-◌, ◌<◌, ◌≤◌, Bool, true, false, Option, Some, None, refl, sym, ap, ◌∙◌, arith}
-use Rattle.std.specs.Prelude.{◌==◌, ◌&&◌, nat_eq, nat_le, cond, if◌then◌else◌}
+use Rattle.std.specs.Prelude.{◌==◌, ◌&&◌, ◌||◌, nat_eq, nat_le, cond, if◌then◌else◌}
 use Rattle.std.specs.List.{list_all, find}
 use Rattle.std.specs.Option.{option_or}
 use Rattle.std.specs.Cmp.Lexicographic.{pointwise}
@@ -224,6 +224,44 @@ module _ {X : Type 0} (text : X → List ℕ) (letters : List (List X)) (ordered
       too_early : (c : Bool) → nat_le 65 b ≡ c → (if c then Some (b - 65) else None) ≡ None → (n : ℕ) → n ≡ b → 65 ≤ n → ⊥
       too_early true h g n f from = absurd (cc)
       too_early false h g n f from = let lt : b < 65 = leb-false 65 b h in omega (arith, f, from, lt)
+
+-- ---- words that end in a digit
+
+-- blanks and letters alone
+abbrev is_lettered : List ℕ → Bool
+is_lettered bytes = list_all (λ b. nat_le b 32 || nat_le 65 b) bytes
+
+module _ (last : ℕ) (from : 48 ≤ last) (to : last ≤ 57) where
+  no_digit : (b : ℕ) → (nat_le b 32 || nat_le 65 b) ≡ true → nat_eq b last ≡ false
+  no_digit b h = unequal b last (λ e. by_low (nat_le b 32) refl h e)
+    where
+      by_low : (c : Bool) → nat_le b 32 ≡ c → (c || nat_le 65 b) ≡ true → b ≡ last → ⊥
+      by_low true low h e = let le : b ≤ 32 = leb-true b 32 low in omega (arith, le, e, from)
+      by_low false low h e = let le : 65 ≤ b = leb-true 65 b h in omega (arith, le, e, to)
+
+  no_last : (bytes front : List ℕ) → is_lettered bytes ≡ true → pointwise nat_eq (take (length (front ++ last ∷ [])) bytes) (front ++ last ∷ []) ≡ false
+  no_last [] [] h = refl
+  no_last [] (f ∷ front) h = refl
+  no_last (b ∷ bytes) [] h =
+      let p = both (nat_le b 32 || nat_le 65 b) (is_lettered bytes) h in ap (λ c. c && pointwise nat_eq (take 0 bytes) []) (no_digit b p.0)
+  no_last (b ∷ bytes) (f ∷ front) h =
+      let p = both (nat_le b 32 || nat_le 65 b) (is_lettered bytes) h in ap (λ c. nat_eq b f && c) (no_last bytes front p.1) ∙ and-false (nat_eq b f)
+
+  none_numbered : (front : List ℕ) (rows : List Operator) → list_all (λ row. is_lettered row.word) rows ≡ true → find (λ row. is_filled row.word (front ++ last ∷ [])) rows ≡ None
+  none_numbered front [] h = refl
+  none_numbered front (row ∷ rows) h =
+      let word = front ++ last ∷ [] in
+      let p = both (is_lettered row.word) (list_all (λ row. is_lettered row.word) rows) h in
+      ap (λ c. cond (c && list_all (λ b. b == 32) (drop (length word) row.word)) (Some row) (find (λ row. is_filled row.word word) rows)) (no_last row.word front p.0) ∙ none_numbered front rows p.1
+
+operators_lettered : list_all (λ row. is_lettered row.word) operators ≡ true
+unfolding operators
+operators_lettered = refl
+
+-- no operator's word does
+pub numbered_nowhere : (word front : List ℕ) (last : ℕ) → word ≡ front ++ last ∷ [] → 48 ≤ last → last ≤ 57 → row_in operators word ≡ None
+unfolding row_in
+numbered_nowhere word front last w from to = ap (λ word. find (λ row. is_filled row.word word) operators) w ∙ none_numbered last from to front operators operators_lettered
 
 pub operator_at : (word : List ℕ) (place : ℕ) → place_of word ≡ Some place → row_begun (get_or operator_letters place []) word ≡ row_in operators word
 unfolding row_in row_begun

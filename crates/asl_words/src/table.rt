@@ -1,5 +1,5 @@
 //! The operators and words of the language (ACPI Specification 6.4, 19.6).
-ghost use Rattle.std.specs.Prelude.{◌≡◌, map, false};
+ghost use Rattle.std.specs.Prelude.{◌≡◌, map, false, true, None};
 ghost use Rattle.std.specs.Option.{option_copied};
 ghost use Rattle.asl_words.specs.Begun as begun;
 ghost use Rattle.asl_words.specs.Operators as spec;
@@ -272,11 +272,25 @@ fn word_letters() -> &'static [&'static [Named]]
     WORDS
 }
 
+// Whether a word ends in a digit, as those of Locals and of arguments do. No operator's word does.
+#[tactic(auto, using(crate::proofs::Tables::numbered_nowhere))]
+fn is_numbered(word: &[u8]) -> bool
+    ensures { result ≡ true → spec.row_in spec.operators word.now ≡ None }
+{
+    match word.split_last() {
+        Some((last, _front)) => b'0' <= *last && *last <= b'9',
+        None => false,
+    }
+}
+
 // The rows of a word's letter: what is not among them is no operator.
 #[tactic(auto, using(crate::proofs::Tables::operator_nowhere))]
 fn operators_by(word: &[u8]) -> &'static [Operator]
     ensures { begun.row_begun result.now word.now ≡ spec.row_in spec.operators word.now }
 {
+    if is_numbered(word) {
+        return &[];
+    }
     let Some(place) = place_of(word) else {
         return &[];
     };

@@ -30,23 +30,26 @@ decreases-terms l = 16 * (sizes_at l.raws.now) + 5
 abbrev pub decreases-elements : goal.decreases-elements
 decreases-elements l = 16 * (sizes_at l.raws.now) + 6
 
+abbrev pub decreases-contents_of : goal.decreases-contents_of
+decreases-contents_of l = 16 * (sizes_at l.raws.now) + 7
+
 abbrev pub decreases-contents : goal.decreases-contents
-decreases-contents l = 16 * (size_in_at l.raws.now) + 7
+decreases-contents l = 16 * (size_in_at l.raws.now) + 8
 
 abbrev pub decreases-add_call : goal.decreases-add_call
 decreases-add_call l = 16 * (size_in_at l.args.now) + 8
 
 abbrev pub decreases-add_form : goal.decreases-add_form
-decreases-add_form l = 16 * (sizes_at l.args.now + size_in_at l.body.now) + 8
+decreases-add_form l = 16 * (sizes_at l.args.now + size_in_at l.body.now) + 9
 
 abbrev pub decreases-add_symbol : goal.decreases-add_symbol
-decreases-add_symbol l = 16 * sizes_at l.args.now + 9
+decreases-add_symbol l = 16 * sizes_at l.args.now + 10
 
 abbrev pub decreases-add_reading : goal.decreases-add_reading
-decreases-add_reading l = 16 * (size_in_at l.args.now + size_in_at l.body.now) + 9
+decreases-add_reading l = 16 * (size_in_at l.args.now + size_in_at l.body.now) + 10
 
 abbrev pub decreases-add_item : goal.decreases-add_item
-decreases-add_item l = 16 * (size_in_at l.args.now + size_in_at l.body.now) + 10
+decreases-add_item l = 16 * (size_in_at l.args.now + size_in_at l.body.now) + 11
 
 abbrev pub invariant-operands-loop-raw : goal.invariant-operands-loop-raw
 invariant-operands-loop-raw l = record {
@@ -106,10 +109,10 @@ abbrev pub decreases-add_macro : goal.decreases-add_macro
 decreases-add_macro l = 16 * (size_in_at l.args.now) + 8
 
 abbrev pub decreases-add_template : goal.decreases-add_template
-decreases-add_template l = 16 * (size_in_at l.body.now) + 8
+decreases-add_template l = 16 * (size_in_at l.body.now) + 9
 
 abbrev pub decreases-add_descriptor : goal.decreases-add_descriptor
-decreases-add_descriptor l = 16 * (size_in_at l.args.now + size_in_at l.body.now) + 8
+decreases-add_descriptor l = 16 * (size_in_at l.args.now + size_in_at l.body.now) + 9
 
 abbrev pub decreases-cases : goal.decreases-cases
 decreases-cases l = 16 * (sizes_at l.raws.now) + 5

@@ -3,6 +3,10 @@ use Rattle.asl_words.specs.Begun.{row_begun}
 use Rattle.asl_words.proofs.Tables.{operator_letters, operator_at, lent_within, lent_past}
 use Rattle.asl_words.proofs.table.operators_by.Goals as goal
 
+pub returns-then-is_numbered : goal.returns-then-is_numbered
+unfolding row_begun
+returns-then-is_numbered c = sym (c.is_numbered.ensures c.if-is_numbered.true)
+
 pub returns-in-Some-get : goal.returns-in-Some-get
 unfolding operator_letters
 returns-in-Some-get c =
