@@ -21,10 +21,6 @@ module _ {A : Type 0} (P : A → Type 0) where
   each_kept test [] h = tt
   each_kept test (x ∷ xs) h = let k = each_kept test xs h.1 in each_either (test x) (x ∷ filter test xs) (filter test xs) (h.0, k) k
 
-  pub each_of : ((x : A) → P x) → (xs : List A) → Each P xs
-  each_of h [] = tt
-  each_of h (x ∷ xs) = (h x, each_of h xs)
-
   pub each_all : (xs : List A) → Each P xs → All P xs
   each_all [] h = λ i m lt. absurd (omega (arith, lt))
   each_all (x ∷ xs) h = All-cons P x xs h.0 (each_all xs h.1)

@@ -10,7 +10,7 @@ use Rattle.named_sessions.specs.Shaped.{LetterShaped, ElementShaped, EffectShape
 use Rattle.named_sessions.specs.Shaped.{AreFormedCases, IsNumber, IsCaseMember, AreCaseMembers, HaveCaseMembers, IsCaseValue, StartsNoElse, IsFollowed, AreNamed}
 use Rattle.descriptor_fields.specs.Values.{has_value}
 use Rattle.descriptor_shapes.proofs.Like.{Like, LikeInteger, LikeOmitted, LikeRaw, LikeMisshapen, LikeUse, Counted, LikeCall, LikeApply, LikeOperated, LikeAssigned}
-use Rattle.descriptor_shapes.proofs.Like.{LikeAssignedBy, LikeBuffer, LikeBytes, LikePackage, LikeVarPackage, LikeSized, LikeCondRefOf, LikeReturn, LikeName, LikeMethod, LikeContainer, LikeScope, LikeIf, LikeElseIf}
+use Rattle.descriptor_shapes.proofs.Like.{LikeAssignedBy, LikeBuffer, LikePackage, LikeVarPackage, LikeSized, LikeCondRefOf, LikeReturn, LikeName, LikeMethod, LikeContainer, LikeScope, LikeIf, LikeElseIf}
 use Rattle.descriptor_shapes.proofs.Like.{LikeElse, LikeWhile, LikeFor, LikePrint, LikeSwitch, LikeCase, LikeDefault, LikeRegion, LikeField, LikeIndexField, LikeBankField, LikeCreate, LikeBy, NoneBy, FirstBy}
 use Rattle.descriptor_shapes.proofs.Like.{SameItem, LikeUnits, NoUnits, MoreUnits, LikeFrom, NoneFrom, MoreFrom, same_count}
 
@@ -54,19 +54,15 @@ member : {p : Bool} {t u : Tree} → Like p t u → IsCaseMember t → IsCaseMem
 member (LikeBuffer bytes more size) h = number size h
 member _ h = search
 
-members : {ks : ℕ → Bool} {n : ℕ} {ts us : Trees} → LikeFrom ks n ts us → AreCaseMembers ts → AreCaseMembers us
-members NoneFrom h = h
-members (MoreFrom like rest) h = (member like h.0, members rest h.1)
-
-some_members : {ks : ℕ → Bool} {n : ℕ} {ts us : Trees} → LikeFrom ks n ts us → HaveCaseMembers ts → HaveCaseMembers us
-some_members NoneFrom h = h
-some_members (MoreFrom like rest) h = (member like h.0, members rest h.1)
+all_members : {ks : ℕ → Bool} {n : ℕ} {ts us : Trees} → LikeFrom ks n ts us → (AreCaseMembers ts → AreCaseMembers us) × (HaveCaseMembers ts → HaveCaseMembers us)
+all_members NoneFrom = (λ h. h, λ h. h)
+all_members (MoreFrom like rest) = (λ h. (member like h.0, (all_members rest).0 h.1), λ h. (member like h.0, (all_members rest).0 h.1))
 
 -- what a Case compares with
 case_value : {p : Bool} {t u : Tree} → Like p t u → IsCaseValue t → IsCaseValue u
-case_value (LikePackage n members) h = some_members members h
-case_value (LikeVarPackage size members) h = (number size h.0, some_members members h.1)
-case_value (LikeSized n less size members) h = some_members members h.1
+case_value (LikePackage n members) h = (all_members members).1 h
+case_value (LikeVarPackage size members) h = (number size h.0, (all_members members).1 h.1)
+case_value (LikeSized n less size members) h = (all_members members).1 h.1
 case_value like h = member like h
 
 starts_no_else : {p : Bool} {t u : Tree} → Like p t u → (ts us : Trees) → StartsNoElse (tree t ts) → StartsNoElse (tree u us)
@@ -105,16 +101,15 @@ by_letter _ e like go spot h = search (expression like, go)
 mutual
   formed : {p : Bool} {t u : Tree} → Like p t u → Formed t → Formed u
   formed (Counted name n) h = tt
-  formed (LikeCall name args) h = (h.0, values args h.1)
-  formed (LikeApply op args targets) h = (h.0, operands args h.1, sym (same_count targets) ∙ h.2, spots (λ k. refl) targets h.3)
+  formed (LikeCall name args) h = (h.0, (lists args).0 h.1)
+  formed (LikeApply op args targets) h = (h.0, operands args h.1, sym (same_count targets) ∙ h.2, (lists targets).2 (λ k. refl) h.3)
   formed (LikeOperated op args) h = (h.0, h.1, operands args h.2)
   formed (LikeAssigned target value) h = (h.0, spot refl target h.1, expression value h.2, formed value h.3)
   formed (LikeAssignedBy op target value) h = (h.0, spot refl target h.1, expression target h.2, formed target h.3, expression value h.4, formed value h.5)
   formed (LikeBuffer bytes more size) h = (expression size h.0, formed size h.1)
-  formed (LikeBytes n m bytes more) h = h
-  formed (LikePackage n elements) h = (h.0, elements_formed elements h.1)
-  formed (LikeVarPackage size elements) h = (expression size h.0, formed size h.1, elements_formed elements h.2)
-  formed (LikeSized n less size elements) h = (less, elements_formed elements h.2)
+  formed (LikePackage n elements) h = (h.0, (lists elements).1 h.1)
+  formed (LikeVarPackage size elements) h = (expression size h.0, formed size h.1, (lists elements).1 h.2)
+  formed (LikeSized n less size elements) h = (less, (lists elements).1 h.2)
   formed (LikeCondRefOf place target) h = (spot refl place h.0, spot refl target h.1)
   formed (LikeReturn value) h = (expression value h.0, formed value h.1)
   formed (LikeName name value) h = (h.0, expression value h.1, formed value h.2)
@@ -126,10 +121,8 @@ mutual
   formed (LikeElse body) h = all_formed body h
   formed (LikeWhile test body) h = (expression test h.0, formed test h.1, all_formed body h.2)
   formed (LikeFor start test step body) h = (h.0, effect start (λ k. formed start k) h.1, expression test h.2, formed test h.3, effect step (λ k. formed step k) h.4, all_formed body h.5)
-  formed (LikePrint format place args) h = (h.0, spot refl place h.1, h.2, values args h.3, sym (same_count args) ∙ h.4)
+  formed (LikePrint format place args) h = (h.0, spot refl place h.1, h.2, (lists args).0 h.3, sym (same_count args) ∙ h.4)
   formed (LikeSwitch value cases) h = (h.0, expression value h.1, formed value h.2, cases_formed cases h.3)
-  formed (LikeCase value body) h = absurd h
-  formed (LikeDefault body) h = absurd h
   formed (LikeRegion name space args) h = (h.0, h.1, operands args h.2)
   formed (LikeField region flags items) h = (h.0, h.1, units items h.2)
   formed (LikeIndexField index register flags items) h = (h.0, h.1, h.2, units items h.3)
@@ -143,7 +136,7 @@ mutual
   spot e (LikeApply op {args = args} {targets = targets} like likes) h = (
     h.0,
     by_form (spot_form op) _ _ _ _
-        (λ (k : Operands (row_of op).operands args × (count targets ≡ (row_of op).targets) × AreFormedSpots One AreNamed One One targets). (operands like k.0, sym (same_count likes) ∙ k.1, spots (λ k. refl) likes k.2))
+        (λ (k : Operands (row_of op).operands args × (count targets ≡ (row_of op).targets) × AreFormedSpots One AreNamed One One targets). (operands like k.0, sym (same_count likes) ∙ k.1, (lists likes).2 (λ k. refl) k.2))
         (λ k. alone like likes k) h.1,
   )
   spot e (LikeOperated op like) h = (h.0, h.1, by_form (spot_form op) _ ⊥ _ ⊥ (λ k. operands like k) (λ k. k) h.2)
@@ -158,17 +151,13 @@ mutual
   operands NoneBy h = h
   operands (FirstBy {letter = letter} like rest) h = (by_letter letter refl like (λ k. formed like k) (λ e k. spot e like k) h.0, operands rest h.1)
 
-  spots : {ks : ℕ → Bool} {n : ℕ} {ts us : Trees} → ((k : ℕ) → ks k ≡ false) → LikeFrom ks n ts us → AreFormedSpots One AreNamed One One ts → AreFormedSpots One AreNamed One One us
-  spots e NoneFrom h = h
-  spots {n = n} e (MoreFrom like rest) h = (spot (e n) like h.0, spots e rest h.1)
-
-  values : {ks : ℕ → Bool} {n : ℕ} {ts us : Trees} → LikeFrom ks n ts us → AreFormedValues One AreNamed One One ts → AreFormedValues One AreNamed One One us
-  values NoneFrom h = h
-  values (MoreFrom like rest) h = (expression like h.0, formed like h.1, values rest h.2)
-
-  elements_formed : {ks : ℕ → Bool} {n : ℕ} {ts us : Trees} → LikeFrom ks n ts us → AreFormedElements One AreNamed One One ts → AreFormedElements One AreNamed One One us
-  elements_formed NoneFrom h = h
-  elements_formed (MoreFrom like rest) h = (element like (λ k. formed like k) h.0, elements_formed rest h.1)
+  -- arguments, elements and targets
+  lists : {ks : ℕ → Bool} {n : ℕ} {ts us : Trees} → LikeFrom ks n ts us → (AreFormedValues One AreNamed One One ts → AreFormedValues One AreNamed One One us)
+      × (AreFormedElements One AreNamed One One ts → AreFormedElements One AreNamed One One us) × (((k : ℕ) → ks k ≡ false) → AreFormedSpots One AreNamed One One ts → AreFormedSpots One AreNamed One One us)
+  lists NoneFrom = (λ h. h, λ h. h, λ e h. h)
+  lists {n = n} (MoreFrom like rest) =
+      let k = lists rest in
+      (λ h. (expression like h.0, formed like h.1, k.0 h.2), λ h. (element like (λ k. formed like k) h.0, k.1 h.1), λ e h. (spot (e n) like h.0, k.2 e h.1))
 
   pub all_formed : {ks : ℕ → Bool} {n : ℕ} {ts us : Trees} → LikeFrom ks n ts us → IsProgram ts → IsProgram us
   all_formed NoneFrom h = h

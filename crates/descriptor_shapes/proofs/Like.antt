@@ -179,10 +179,9 @@ operated_like (Plain.Number IntOp.LGreaterEqual) like = (LikeOperated (Plain.Num
 operated_like op like = (LikeOperated op like, λ files h. h)
 
 fits_same : (letters : List Letter) {values : ℕ → Bool} {n : ℕ} {ts us : Trees} → LikeFrom values n ts us → fits letters ts ≡ fits letters us
-fits_same [] NoneFrom = refl
-fits_same [] (MoreFrom like rest) = refl
-fits_same (letter ∷ letters) NoneFrom = refl
 fits_same (letter ∷ letters) (MoreFrom like rest) = fits_same letters rest
+fits_same [] NoneFrom = refl
+fits_same _ _ = refl
 
 symbol_like : {p : Bool} (op : Plain) {ts us : Trees} → LikeFrom (is_operand (row_of op).operands) 0 ts us → AlikeApplied p ts (symbol_of op ts) (symbol_of op us)
 symbol_like {p} op {ts} {us} like = rw (fits_same (row_of op).operands like) (by_fit (fits (row_of op).operands us))

@@ -42,35 +42,31 @@ module _ (files : ℕ) where
   mutual
     value_in : (asked : Bool) (t : Tree) (scope : AbsolutePath) → IsWithin files t → AreMentionedIn (mentions asked t scope)
     value_in asked (Use at name) scope h = (h, tt)
-    value_in asked (Call at name args) scope h = (h.0, values_in asked args scope h.1)
-    value_in asked (Apply op args targets) scope h = both _ _ (operands_in asked (asked_use asked op) (row_of op).operands args scope h.0) (targets_in asked targets scope h.1)
+    value_in asked (Call at name args) scope h = (h.0, (trees_in asked args scope h.1).0)
+    value_in asked (Apply op args targets) scope h = both _ _ (operands_in asked (asked_use asked op) (row_of op).operands args scope h.0) (trees_in asked targets scope h.1).1
     value_in asked (Operated op args) scope h = operands_in asked (asked_use asked op) (row_of op).operands args scope h
     value_in asked (Assigned target value) scope h = both _ _ (value_in asked value scope h.1) (value_in (asked && is_spot target) target scope h.0)
     value_in asked (AssignedBy op target value) scope h = both _ _ (value_in asked target scope h.0) (value_in asked value scope h.1)
     value_in asked (Buffer size bytes) scope h = value_in asked size scope h
-    value_in asked (Package n elements) scope h = elements_in asked elements scope h
-    value_in asked (VarPackage size elements) scope h = both _ _ (value_in asked size scope h.0) (elements_in asked elements scope h.1)
+    value_in asked (Package n elements) scope h = (trees_in asked elements scope h).2
+    value_in asked (VarPackage size elements) scope h = both _ _ (value_in asked size scope h.0) (trees_in asked elements scope h.1).2
     value_in asked (CondRefOf place target) scope h =
         both _ _ (sought_in place _ scope h.0 (value_in (asked && is_spot place) place scope h.0)) (value_in (asked && is_spot target) target scope h.1)
     value_in asked _ scope h = tt
 
-    values_in : (asked : Bool) (ts : Trees) (scope : AbsolutePath) → AreWithin files ts → AreMentionedIn (mentions_all asked ts scope)
-    values_in asked no_trees scope h = tt
-    values_in asked (tree t ts) scope h = both _ _ (value_in asked t scope h.0) (values_in asked ts scope h.1)
+    -- arguments, targets and elements
+    trees_in : (asked : Bool) (ts : Trees) (scope : AbsolutePath) → AreWithin files ts
+        → AreMentionedIn (mentions_all asked ts scope) × AreMentionedIn (target_mentions asked ts scope) × AreMentionedIn (element_mentions asked ts scope)
+    trees_in asked no_trees scope h = (tt, tt, tt)
+    trees_in asked (tree t ts) scope h =
+        let k = trees_in asked ts scope h.1 in
+        search (both, value_in asked t scope h.0, value_in (asked && is_spot t) t scope h.0, value_in (asked && not (is_use t)) t scope h.0)
 
     operands_in : (asked : Bool) (uses : Asked) (letters : List Letter) (ts : Trees) (scope : AbsolutePath) → AreWithin files ts → AreMentionedIn (operand_mentions asked uses letters ts scope)
     operands_in asked uses letters no_trees scope h = tt
     operands_in asked uses [] (tree t ts) scope h = both _ _ (value_in false t scope h.0) (operands_in asked uses [] ts scope h.1)
     operands_in asked uses (letter ∷ letters) (tree t ts) scope h =
         both _ _ (letter_in letter uses t _ scope h.0 (value_in (asked && asks letter t) t scope h.0)) (operands_in asked uses letters ts scope h.1)
-
-    targets_in : (asked : Bool) (ts : Trees) (scope : AbsolutePath) → AreWithin files ts → AreMentionedIn (target_mentions asked ts scope)
-    targets_in asked no_trees scope h = tt
-    targets_in asked (tree t ts) scope h = both _ _ (value_in (asked && is_spot t) t scope h.0) (targets_in asked ts scope h.1)
-
-    elements_in : (asked : Bool) (ts : Trees) (scope : AbsolutePath) → AreWithin files ts → AreMentionedIn (element_mentions asked ts scope)
-    elements_in asked no_trees scope h = tt
-    elements_in asked (tree t ts) scope h = both _ _ (value_in (asked && not (is_use t)) t scope h.0) (elements_in asked ts scope h.1)
 
   units_in : (items : List (FieldItem UnitName)) (scope : AbsolutePath) → AreItemsWithin files items → AreMentionedIn (item_mentions items scope)
   units_in [] scope h = tt
@@ -94,7 +90,7 @@ module _ (files : ℕ) where
     term_in (While test body) scope d h = both _ _ (value_in true test scope h.0) (block_in body scope d h.1)
     term_in (For start test step body) scope d h =
         both _ _ (value_in true start scope h.0) (both _ _ (value_in true test scope h.1) (both _ _ (value_in true step scope h.2) (block_in body scope d h.3)))
-    term_in (Print place format args) scope d h = both _ _ (value_in (is_spot place) place scope h.0) (values_in true args scope h.1)
+    term_in (Print place format args) scope d h = both _ _ (value_in (is_spot place) place scope h.0) (trees_in true args scope h.1).0
     term_in (Switch value cases) scope d h = both _ _ (value_in true value scope h.0) (block_in cases scope d h.1)
     term_in (Case value body) scope d h = both _ _ (value_in true value scope h.0) (block_in body scope d h.1)
     term_in (Default body) scope d h = block_in body scope d h

@@ -95,7 +95,7 @@ module _ (files : ℕ) where
       term_within bits value place node (a_form op args body) h k =
           let a = terms_within (Arguments op) 0 bits (suc node) args k.0 in
           let b = terms_within (Contents op) 0 bits (suc node + nodes args) body k.1 in
-          ((a.0, b.0), each_both (IsTold files) (broken_from fields (Arguments op) 0 bits (suc node) args) (broken_from fields (Contents op) 0 bits (suc node + nodes args) body) a.1 b.1)
+          search (each_both (IsTold files))
       term_within bits value place node _ h k = search
 
       terms_within : (among : Among) (n : ℕ) (bits : Bool) (node : ℕ) (ps : Plans) → PlansWithin files ps
@@ -104,7 +104,7 @@ module _ (files : ℕ) where
       terms_within among n bits node (plan place p ps) h =
           let a = term_within (bits || is_in_bits among n) (is_value_in among n) place node p h.0 h.1 in
           let b = terms_within among (suc n) bits (suc (node + inside p)) ps h.2 in
-          ((h.0, a.0, b.0), each_both (IsTold files) (broken fields (bits || is_in_bits among n) (is_value_in among n) place node p) (broken_from fields among (suc n) bits (suc (node + inside p)) ps) a.1 b.1)
+          search (each_both (IsTold files))
 
 -- ---- the block
 

@@ -1,6 +1,6 @@
 -- The terms of a program with those that declare its descriptors, in which fields are constants: these can be taken out again, and what is
 -- left are the program's own terms, in which fields are constants.
-use Rattle.std.proofs.Common.{◌≡◌, ℕ, suc, ◌+◌, Bool, true, false, List, [], ◌∷◌, Option, Some, refl, sym, subst, ap, ◌∙◌, arith}
+use Rattle.std.proofs.Common.{◌≡◌, ℕ, suc, ◌+◌, Bool, true, false, List, [], ◌∷◌, Option, Some, refl, sym, subst, ◌∙◌, arith}
 use Rattle.std.specs.Prelude.{◌||◌, if◌then◌else◌}
 use Rattle.iasl_messages.specs.declared.place.Place.{Place}
 use Rattle.asl_tree.specs.declared.path.Path.{Path}
@@ -11,6 +11,7 @@ use Rattle.asl_tree.specs.Tree.{At, Trees, Tree, Use, Fill, no_trees, tree, Case
 use Rattle.asl_tree.specs.View.{form}
 use Rattle.asl_shape.specs.Plans.{Plan, a_fill, a_name, a_call, a_form, Plans, no_plans, plan, plan_at, join}
 use Rattle.asl_shape.specs.Descriptors.{named_of}
+use Rattle.asl_shape.proofs.Shapes.{join_assoc}
 use Rattle.asl_numbers.specs.Numbers.{inside, nodes, numbered, numbered_all}
 use Rattle.descriptor_fields.specs.Declaring.{has_terms, names_inside, declaration, declarations, alone, beside, is_first, opened, declaring, is_naming, declared_by, closed, stripped}
 use Rattle.descriptor_fields.specs.Values.{Among, Arguments, Contents, OfCall, has_values, is_value_in, is_in_bits, is_value}
@@ -48,34 +49,30 @@ first_term (Case value body) ts (Cases h) = (h.1, Cases h.2)
 first_term (Default body) no_trees (Cases h) = (h, Cases tt)
 first_term _ _ (Cases h) = absurd h
 
--- no more trees where there are none
-pub data Fuller : Trees → Trees → Type 0 where
-  Empty : Fuller no_trees no_trees
-  Full : (t : Tree) (ts us : Trees) → Fuller (tree t ts) us
-
-pub body_terms : (here there : At) (op : Op) {ts us bs cs : Trees} → LikeFrom (is_value op) 0 ts us → has_terms op ≡ true → Fuller bs cs
+-- where the body is empty so is the other one
+pub body_terms : (here there : At) (op : Op) {ts us : Trees} → LikeFrom (is_value op) 0 ts us → (bs cs : Trees) → has_terms op ≡ true → (bs ≡ no_trees → cs ≡ no_trees)
     → IsTerm (form here op ts bs) → AreTerms bs × IsShaped (form there op us cs)
-body_terms here there (Op.Declaration Declaration.Method) (MoreFrom (LikeUse name) (MoreFrom (LikeInteger flags) NoneFrom)) e full h = (Terms h.2, tt)
-body_terms here there (Op.Declaration Declaration.Device) (MoreFrom (LikeUse name) NoneFrom) e full h = (Terms h.2, tt)
-body_terms here there (Op.Declaration Declaration.ThermalZone) (MoreFrom (LikeUse name) NoneFrom) e full h = (Terms h.2, tt)
-body_terms here there (Op.Declaration Declaration.PowerResource) (MoreFrom (LikeUse name) (MoreFrom (LikeInteger level) (MoreFrom (LikeInteger order) NoneFrom))) e full h = (Terms h.2, tt)
+body_terms here there (Op.Declaration Declaration.Method) (MoreFrom (LikeUse name) (MoreFrom (LikeInteger flags) NoneFrom)) bs cs e none h = (Terms h.2, tt)
+body_terms here there (Op.Declaration Declaration.Device) (MoreFrom (LikeUse name) NoneFrom) bs cs e none h = (Terms h.2, tt)
+body_terms here there (Op.Declaration Declaration.ThermalZone) (MoreFrom (LikeUse name) NoneFrom) bs cs e none h = (Terms h.2, tt)
+body_terms here there (Op.Declaration Declaration.PowerResource) (MoreFrom (LikeUse name) (MoreFrom (LikeInteger level) (MoreFrom (LikeInteger order) NoneFrom))) bs cs e none h = (Terms h.2, tt)
 body_terms here there (Op.Declaration Declaration.Processor)
-    (MoreFrom (LikeUse name) (MoreFrom (LikeInteger number) (MoreFrom (LikeInteger address) (MoreFrom (LikeInteger size) NoneFrom)))) e full h = (Terms h.2, tt)
-body_terms here there (Op.Declaration Declaration.Scope) (MoreFrom (LikeUse name) NoneFrom) e full h = (Terms h.1, tt)
-body_terms here there (Op.Control Control.Return) (MoreFrom value NoneFrom) e Empty h = (Terms tt, tt)
-body_terms here there (Op.Control Control.If) (MoreFrom test NoneFrom) e full h = (Terms h.2, tt)
-body_terms here there (Op.Control Control.ElseIf) (MoreFrom test NoneFrom) e full h = (Terms h.3, tt)
-body_terms here there (Op.Control Control.Else) NoneFrom e full h = (Terms h, tt)
-body_terms here there (Op.Control Control.While) (MoreFrom test NoneFrom) e full h = (Terms h.2, tt)
-body_terms here there (Op.Control Control.For) (MoreFrom start (MoreFrom test (MoreFrom step NoneFrom))) e full h = (Terms h.5, tt)
-body_terms here there (Op.Control Control.Printf) (MoreFrom (LikeString text) args) e Empty h = (Terms tt, tt)
-body_terms here there (Op.Control Control.Fprintf) (MoreFrom place (MoreFrom (LikeString text) args)) e Empty h = (Terms tt, tt)
-body_terms here there (Op.Control Control.Switch) (MoreFrom value NoneFrom) e full h = (Cases h.3, tt)
-body_terms here there (Op.Control Control.Case) (MoreFrom value NoneFrom) e full h = (Terms h, tt)
-body_terms here there (Op.Control Control.Default) NoneFrom e full h = (Terms h, tt)
-body_terms here there (Op.Control Control.Break) NoneFrom e Empty h = (Terms tt, tt)
-body_terms here there (Op.Control Control.Continue) NoneFrom e Empty h = (Terms tt, tt)
-body_terms here there _ _ e full h = absurd (first_of (cc, search))
+    (MoreFrom (LikeUse name) (MoreFrom (LikeInteger number) (MoreFrom (LikeInteger address) (MoreFrom (LikeInteger size) NoneFrom)))) bs cs e none h = (Terms h.2, tt)
+body_terms here there (Op.Declaration Declaration.Scope) (MoreFrom (LikeUse name) NoneFrom) bs cs e none h = (Terms h.1, tt)
+body_terms here there (Op.Control Control.Return) (MoreFrom value NoneFrom) no_trees cs e none h = (Terms tt, rw (none refl) tt)
+body_terms here there (Op.Control Control.If) (MoreFrom test NoneFrom) bs cs e none h = (Terms h.2, tt)
+body_terms here there (Op.Control Control.ElseIf) (MoreFrom test NoneFrom) bs cs e none h = (Terms h.3, tt)
+body_terms here there (Op.Control Control.Else) NoneFrom bs cs e none h = (Terms h, tt)
+body_terms here there (Op.Control Control.While) (MoreFrom test NoneFrom) bs cs e none h = (Terms h.2, tt)
+body_terms here there (Op.Control Control.For) (MoreFrom start (MoreFrom test (MoreFrom step NoneFrom))) bs cs e none h = (Terms h.5, tt)
+body_terms here there (Op.Control Control.Printf) (MoreFrom (LikeString text) args) no_trees cs e none h = (Terms tt, rw (none refl) tt)
+body_terms here there (Op.Control Control.Fprintf) (MoreFrom place (MoreFrom (LikeString text) args)) no_trees cs e none h = (Terms tt, rw (none refl) tt)
+body_terms here there (Op.Control Control.Switch) (MoreFrom value NoneFrom) bs cs e none h = (Cases h.3, tt)
+body_terms here there (Op.Control Control.Case) (MoreFrom value NoneFrom) bs cs e none h = (Terms h, tt)
+body_terms here there (Op.Control Control.Default) NoneFrom bs cs e none h = (Terms h, tt)
+body_terms here there (Op.Control Control.Break) NoneFrom no_trees cs e none h = (Terms tt, rw (none refl) tt)
+body_terms here there (Op.Control Control.Continue) NoneFrom no_trees cs e none h = (Terms tt, rw (none refl) tt)
+body_terms here there _ _ _ cs e none h = absurd (first_of (cc, search))
 
 -- no value of a Name is bytes
 pub no_bytes : (here : At) (t : Tree) (bytes : List ℕ) (ts bs : Trees) → IsTerm (form here (Op.Declaration Declaration.Name) (tree t (tree (Fill bytes) ts)) bs) → ⊥
@@ -87,10 +84,6 @@ no_bytes here _ bytes _ _ h = h
 -- terms stand where names are expressions
 terms_are_values : (op : Op) → has_terms op ≡ true → has_values op ≡ true
 terms_are_values op e = grind arith
-
-join_again : (ps qs rs : Plans) → join (join ps qs) rs ≡ join ps (join qs rs)
-join_again no_plans qs rs = refl
-join_again (plan place p ps) qs rs = ap (plan place p) (join_again ps qs rs)
 
 -- what is like a term is not misshapen
 shaped_like : {value : Bool} {t u : _} → Like value t u → IsTerm t → IsShaped u
@@ -106,13 +99,9 @@ Comes value p q = (declared_by q ≡ []) × Resolves value p (closed q) × IsWho
 abbrev AllCome : Among → ℕ → Plans → Plans → Type 0
 AllCome among n ps qs = AllResolve among n ps (stripped qs) × AreWhole qs
 
-use_comes : (bits value : Bool) (name : Path) (field : Option ℕ) → Comes value (a_name name) (resolved_use bits value name field)
-use_comes bits true name (Some bit) = (refl, use_resolves bits true name (Some bit), tt)
-use_comes bits _ name _ = (refl, stays (a_name name) tt, tt)
-
-use_none : (bits value : Bool) (name : Path) (field : Option ℕ) → (named_of (resolved_use bits value name field) ≡ []) × Describes (resolved_use bits value name field)
-use_none bits true name (Some bit) = (refl, tt)
-use_none bits _ name _ = (refl, tt)
+use_comes : (bits value : Bool) (name : Path) (field : Option ℕ) → let q = resolved_use bits value name field in Comes value (a_name name) q × ((named_of q ≡ []) × Describes q)
+use_comes bits true name (Some bit) = ((refl, use_resolves bits true name (Some bit), tt), (refl, tt))
+use_comes bits _ name _ = ((refl, stays (a_name name) tt, tt), (refl, tt))
 
 module _ (fields : List (ℕ × ℕ)) where
   -- no term of the program declares a descriptor, and no value of a Name is bytes
@@ -120,8 +109,7 @@ module _ (fields : List (ℕ × ℕ)) where
       → let others = resolved_from fields (Arguments op) 0 bits node args in (declared_by (a_form op others more) ≡ []) × Where (is_naming op) (Describes (plan_at others 1))
   unfolding numbered numbered_all
   none_declared (Op.Declaration Declaration.Name) (plan place p (plan there (a_fill bytes named) ps)) more at next bs bits node h = absurd (no_bytes at _ bytes _ bs h)
-  none_declared (Op.Declaration Declaration.Name) (plan place p (plan there (a_name name) ps)) more at next bs bits node h = use_none (bits || false) true name (at_node fields (suc (node + inside p)))
-  none_declared (Op.Declaration Declaration.Name) (plan place p (plan there q ps)) more at next bs bits node h = (refl, tt)
+  none_declared (Op.Declaration Declaration.Name) (plan place p (plan there (a_name name) ps)) more at next bs bits node h = (use_comes (bits || false) true name (at_node fields (suc (node + inside p)))).1
   none_declared _ args more at next bs bits node h = (refl, tt)
 
   module _ (among : Among) (values : (k : ℕ) → is_value_in among k ≡ true) (bits : Bool) where
@@ -147,7 +135,7 @@ module _ (fields : List (ℕ × ℕ)) where
         → Come i (plan place p ps) (join (beside b (declarations names) (alone place q)) qs)
     beside_come true names i place p q ps qs term rest = term_comes i place p q ps (join (declarations names) qs) term (names_come names (suc i) ps qs rest)
     beside_come false names i place p q ps qs term rest =
-        rw (join_again (declarations names) (alone place q) qs) (names_come names i (plan place p ps) (plan place q qs) (term_comes i place p q ps qs term rest))
+        rw (join_assoc (declarations names) (alone place q) qs) (names_come names i (plan place p ps) (plan place q qs) (term_comes i place p q ps qs term rest))
 
   -- a form, by whether terms stand in its body
   module _ (bits value : Bool) (node : ℕ) (op : Op) (args body : Plans) (at : At) (next : ℕ) (h : IsTerm (numbered at next (a_form op args body))) where
@@ -160,10 +148,10 @@ module _ (fields : List (ℕ × ℕ)) where
     given : AllResolve (Arguments op) 0 args others
     given = all_resolve fields (Arguments op) 0 bits (suc node) args
 
-    fuller : (ps : Plans) (n m : ℕ) → Fuller (numbered_all n ps) (numbered_all m (more (declaring ps)))
+    empty : (ps : Plans) (n m : ℕ) → numbered_all n ps ≡ no_trees → numbered_all m (more (declaring ps)) ≡ no_trees
     unfolding numbered_all
-    fuller no_plans n m = Empty
-    fuller (plan place p ps) n m = Full _ _ _
+    empty no_plans n m e = refl
+    empty (plan place p ps) n m e = absurd cc
 
     form_comes : (b : Bool) → has_terms op ≡ b → (((k : ℕ) → is_value_in (Contents op) k ≡ true) → AreTerms (numbered_all (next + nodes args) body) → AllCome (Contents op) 0 body (more (declaring body)))
         → Resolves value (a_form op args body) (a_form op others (if b then stripped (more (if b then declaring body else body)) else more (if b then declaring body else body)))
@@ -171,7 +159,7 @@ module _ (fields : List (ℕ × ℕ)) where
     unfolding numbered
     form_comes true e go =
         let k : AreTerms (numbered_all (next + nodes args) body) × IsShaped (numbered nowhere 0 (a_form op others (more (declaring body)))) =
-        body_terms at nowhere op (given.all_alike next 0) e (fuller body (next + nodes args) (0 + nodes others)) h in
+        body_terms at nowhere op (given.all_alike next 0) _ _ e (empty body (next + nodes args) (0 + nodes others)) h in
         let inner : AllCome (Contents op) 0 body (more (declaring body)) = go (λ k. terms_are_values op e) k.0 in
         (in_form op given inner.0, k.1, inner.1)
     form_comes false e go =
@@ -182,7 +170,7 @@ module _ (fields : List (ℕ × ℕ)) where
     unfolding numbered numbered_all
 
     comes : (bits value : Bool) (node : ℕ) (p : Plan) (at : At) (next : ℕ) → IsTerm (numbered at next p) → Comes value p (resolved fields bits value node (opened p))
-    comes bits value node (a_name name) at next h = use_comes bits value name (at_node fields node)
+    comes bits value node (a_name name) at next h = (use_comes bits value name (at_node fields node)).0
     comes bits value node (a_call name args) at next h = (refl, resolves fields bits value node (a_call name args), tt)
     comes bits value node (a_form op args body) at next h =
         let f = form_comes bits value node op args body at next h (has_terms op) refl

@@ -1,20 +1,18 @@
 -- What is told of the names of a block stands where its terms and its descriptors stand.
 use Rattle.std.proofs.Common.{ℕ, Bool, true, false, List, [], ◌∷◌, ◌++◌, Option, Some, None}
-use Rattle.std.specs.Prelude.{not, if◌then◌else◌, map}
+use Rattle.std.specs.Prelude.{if◌then◌else◌, map}
 use Rattle.std.specs.List.{All}
 use Rattle.acpi_values.specs.Paths.{AbsolutePath}
 use Rattle.acpi_state.specs.Outcomes.{choose}
-use Rattle.asl_tree.specs.Names.{declared_path}
 use Rattle.asl_tree.specs.declared.term.NamedDescriptor.{NamedDescriptor}
 use Rattle.asl_meaning.specs.Declarations.{Declarations, nothing_declared}
-use Rattle.acpi_names.specs.Errors.{NameError, Missing, AValue, unless, Whole, whole_of}
-use Rattle.acpi_names.specs.Mentions.{Mention, Used', Sought, Called, Declares, after, mention_errors, all_errors, mention_types, all_types}
+use Rattle.acpi_names.specs.Errors.{NameError, AValue, unless, Whole, whole_of}
+use Rattle.acpi_names.specs.Mentions.{Mention, Used', Called, after, mention_errors, all_errors, mention_types, all_types}
 use Rattle.asl_numbers.specs.Numbers.{numbered_all}
 use Rattle.name_checks.specs.Messages.{message_of}
 use Rattle.asl_shape.specs.Plans.{Plans}
-use Rattle.descriptor_fields.specs.Declaring.{declaring}
-use Rattle.descriptor_checks.specs.Resolved.{checked_terms, broken_fields, mentions_of, names_of, table_of}
-use Rattle.descriptor_checks.specs.Told.{fault_of, field_errors, is_below, below_errors, all_below, is_no_field, is_of_no_descriptor, all_field_errors, all_use_faults, names_wrong, kinds_wrong, names_told, kinds_told}
+use Rattle.descriptor_checks.specs.Resolved.{checked_terms, broken_fields, mentions_of, table_of}
+use Rattle.descriptor_checks.specs.Told.{fault_of, field_errors, below_errors, all_below, is_no_field, is_of_no_descriptor, all_field_errors, all_use_faults, names_told, kinds_told}
 use Rattle.descriptor_shapes.specs.Places.{PlansWithin}
 use Rattle.descriptor_shapes.proofs.TreePlaces.{numbered_within}
 use Rattle.descriptor_shapes.proofs.MentionPlaces.{IsMentionedIn, AreMentionedIn, block_in}
@@ -47,50 +45,33 @@ module _ (files : ℕ) where
 
   ruleset rules = (both, unless_in, choose_in, if_in)
 
-  module _ (whole : Whole) where
-    errors_in : (m : Mention) (d : Declarations) → IsMentionedIn files m → AreErrorsIn (mention_errors whole m d)
-    errors_in (Sought at name scope) d h = search rules
-    errors_in _ d h = search rules depth 8
+  module _ (whole : Whole) (look : AbsolutePath → Option NamedDescriptor) where
+    told_in : (m : Mention) (d : Declarations) → IsMentionedIn files m
+        → AreErrorsIn (mention_errors whole m d) × AreErrorsIn (mention_types whole m) × AreErrorsIn (field_errors m) × Each (IsTold files) (fault_of m) × AreErrorsIn (below_errors look m)
+    told_in (Used' AValue at name scope) d h = search rules depth 8
+    told_in (Called true at name args scope) d h = search rules depth 8
+    told_in _ d h = search rules depth 8
 
     all_errors_in : (ms : List Mention) (d : Declarations) → AreMentionedIn files ms → AreErrorsIn (all_errors whole ms d)
     all_errors_in [] d h = tt
-    all_errors_in (m ∷ ms) d h = both _ _ (errors_in m d h.0) (all_errors_in ms (after m d) h.1)
-
-    types_in : (m : Mention) → IsMentionedIn files m → AreErrorsIn (mention_types whole m)
-    types_in (Used' AValue at name scope) h = search rules
-    types_in (Called true at name args scope) h = search rules
-    types_in _ h = search rules
+    all_errors_in (m ∷ ms) d h = both _ _ (told_in m d h.0).0 (all_errors_in ms (after m d) h.1)
 
     all_types_in : (ms : List Mention) → AreMentionedIn files ms → AreErrorsIn (all_types whole ms)
     all_types_in [] h = tt
-    all_types_in (m ∷ ms) h = both _ _ (types_in m h.0) (all_types_in ms h.1)
-
-  -- ---- descriptors and their fields
-
-  field_in : (m : Mention) → IsMentionedIn files m → AreErrorsIn (field_errors m)
-  field_in (Sought at name scope) h = search rules
-  field_in _ h = search rules
-
-  fault_in : (m : Mention) → IsMentionedIn files m → Each (IsTold files) (fault_of m)
-  fault_in (Used' AValue at name scope) h = (h, tt)
-  fault_in _ h = search
-
-  module _ (has : AbsolutePath → Bool) (look : AbsolutePath → Option NamedDescriptor) where
-    below_in : (m : Mention) → IsMentionedIn files m → AreErrorsIn (below_errors look m)
-    below_in (Declares at name as' scope) h = unless_in (not (is_below look (declared_path name scope))) (Missing at name) h
-    below_in _ h = tt
+    all_types_in (m ∷ ms) h = both _ _ (told_in m nothing_declared h.0).1 (all_types_in ms h.1)
 
     all_below_in : (ms : List Mention) → AreMentionedIn files ms → AreErrorsIn (all_below look ms)
     all_below_in [] h = tt
-    all_below_in (m ∷ ms) h = both _ _ (below_in m h.0) (all_below_in ms h.1)
+    all_below_in (m ∷ ms) h = both _ _ (told_in m nothing_declared h.0).4 (all_below_in ms h.1)
 
-    fields_in : (ms : List Mention) → AreMentionedIn files ms → AreErrorsIn (all_field_errors has look ms)
-    fields_in [] h = tt
-    fields_in (m ∷ ms) h = both _ _ (each_either IsErrorIn (is_no_field has look m) [] (field_errors m) tt (field_in m h.0)) (fields_in ms h.1)
+    module _ (has : AbsolutePath → Bool) where
+      fields_in : (ms : List Mention) → AreMentionedIn files ms → AreErrorsIn (all_field_errors has look ms)
+      fields_in [] h = tt
+      fields_in (m ∷ ms) h = both _ _ (each_either IsErrorIn (is_no_field has look m) [] (field_errors m) tt (told_in m nothing_declared h.0).2) (fields_in ms h.1)
 
-    faults_in : (ms : List Mention) → AreMentionedIn files ms → Each (IsTold files) (all_use_faults has look ms)
-    faults_in [] h = tt
-    faults_in (m ∷ ms) h = each_both (IsTold files) _ _ (each_either (IsTold files) (is_of_no_descriptor has look m) [] (fault_of m) tt (fault_in m h.0)) (faults_in ms h.1)
+      faults_in : (ms : List Mention) → AreMentionedIn files ms → Each (IsTold files) (all_use_faults has look ms)
+      faults_in [] h = tt
+      faults_in (m ∷ ms) h = each_both (IsTold files) _ _ (each_either (IsTold files) (is_of_no_descriptor has look m) [] (fault_of m) tt (told_in m nothing_declared h.0).3) (faults_in ms h.1)
 
   -- ---- messages
 
@@ -98,28 +79,25 @@ module _ (files : ℕ) where
   messages_in [] h = tt
   messages_in (e ∷ es) h = (h.0, messages_in es h.1)
 
-  -- ---- a block with the terms that declare its descriptors
-
-  module _ (ps : Plans) (h : PlansWithin files ps) where
-    mentions_in : AreMentionedIn files (mentions_of ps)
-    mentions_in = block_in files (numbered_all 0 ps) [] nothing_declared (numbered_within files 0 ps h)
-
-    names_in : AreErrorsIn (names_wrong ps)
-    names_in = search (both, all_errors_in (whole_of (numbered_all 0 ps)), each_kept (IsMentionedIn files), all_below_in (names_of ps) (table_of ps), mentions_in)
-
-    kinds_in : Each (IsTold files) (kinds_wrong ps)
-    kinds_in = search (each_both (IsTold files), messages_in, all_types_in (whole_of (numbered_all 0 ps)), each_kept (IsMentionedIn files), faults_in (names_of ps) (table_of ps), mentions_in)
-
 -- ---- the block
 
+mentions_in : (files : ℕ) (ps : Plans) → PlansWithin files ps → AreMentionedIn files (mentions_of ps)
+mentions_in files ps h = block_in files (numbered_all 0 ps) [] nothing_declared (numbered_within files 0 ps h)
+
 module _ (files : ℕ) (ps : Plans) (h : PlansWithin files ps) where
+  abbrev whole : Whole
+  whole = whole_of (numbered_all 0 (checked_terms ps))
+
+  abbrev look : AbsolutePath → Option NamedDescriptor
+  look = table_of (checked_terms ps)
+
   pub names_told_within : All (IsTold files) (names_told ps)
-  names_told_within =
-      let all : Plans = declaring ps in
-      each_all (IsTold files) (names_told ps) (search (messages_in files, both files, names_in files, fields_in files (names_of all) (table_of all), mentions_in files, checked_within files, declaring_within files) depth 8)
+  names_told_within = each_all (IsTold files) (names_told ps)
+      (search (messages_in files, both files, all_errors_in files whole look, all_below_in files whole look, fields_in files whole, each_kept (IsMentionedIn files), mentions_in files, checked_within files ps h, declaring_within files ps h) depth 10)
 
   pub kinds_told_within : All (IsTold files) (kinds_told ps)
-  kinds_told_within = each_all (IsTold files) (kinds_told ps) (each_both (IsTold files) _ _ (kinds_in files (checked_terms ps) (checked_within files ps h)) (broken_within files ps h))
+  kinds_told_within = each_all (IsTold files) (kinds_told ps)
+      (search (messages_in files, each_both (IsTold files), all_types_in files whole look, faults_in files whole, each_kept (IsMentionedIn files), mentions_in files, checked_within files ps h, broken_within files ps h) depth 10)
 
   pub broken_fields_within : All (IsTold files) (broken_fields ps)
   broken_fields_within = each_all (IsTold files) (broken_fields ps) (broken_within files ps h)

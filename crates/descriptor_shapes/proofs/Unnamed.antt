@@ -1,6 +1,6 @@
 -- Blocks whose mentions are of no descriptor and of no field of one, as of terms in which no descriptor has a name.
-use Rattle.std.proofs.Common.{◌≡◌, ℕ, suc, ◌+◌, Bool, true, false, List, [], ◌∷◌, ◌++◌, Option, None, refl, sym, subst, ap, ◌∙◌, arith}
-use Rattle.std.specs.Prelude.{◌||◌, if◌then◌else◌, map, filter, Option, is_some}
+use Rattle.std.proofs.Common.{◌≡◌, ℕ, Bool, true, false, List, [], ◌∷◌, ◌++◌, Option, None, refl, sym, subst, ap, ◌∙◌, arith}
+use Rattle.std.specs.Prelude.{if◌then◌else◌, map, filter, Option, is_some}
 use Rattle.std.proofs.lemmas.Bool.{or_parts}
 use Rattle.std.proofs.lemmas.List.{append-nil}
 use Rattle.iasl_messages.specs.declared.place.Place.{Place}
@@ -10,18 +10,19 @@ use Rattle.asl_tree.specs.declared.term.NamedDescriptor.{NamedDescriptor}
 use Rattle.acpi_names.specs.Errors.{name_errors, type_errors, whole_of}
 use Rattle.acpi_names.specs.Mentions.{Mention}
 use Rattle.acpi_names.specs.Terms.{are_terms}
-use Rattle.asl_numbers.specs.Numbers.{inside, nodes, numbered_all}
+use Rattle.asl_numbers.specs.Numbers.{numbered_all}
 use Rattle.asl_shape.specs.Plans.{Plan, a_fill, a_name, a_call, a_form, Plans, no_plans, plan, plan_at, join}
 use Rattle.asl_shape.specs.Descriptors.{named_of}
 use Rattle.name_checks.specs.Messages.{message_of}
 use Rattle.descriptor_fields.specs.Declaring.{names_inside, names_among, alone, beside, is_first, opened, declaring, declared_by, closed, stripped, names_descriptor, names_descriptors}
-use Rattle.descriptor_fields.specs.Values.{Among, Arguments, Contents, OfCall, is_value_in, is_in_bits}
-use Rattle.descriptor_fields.specs.Constants.{resolved, resolved_from, broken, broken_from}
+use Rattle.descriptor_fields.specs.Values.{Among, OfCall}
+use Rattle.asl_tree.specs.declared.path.Path.{Path}
+use Rattle.descriptor_fields.specs.Constants.{resolved_use, broken_use, resolved, resolved_from, broken, broken_from}
 use Rattle.descriptor_fields.specs.Nodes.{named_in, named_from}
 use Rattle.descriptor_checks.specs.Resolved.{described, mentions_of, names_of, table_of, fields_of, checked_terms, broken_fields, resolved_terms, described_paths, fields_in}
 use Rattle.descriptor_checks.specs.Told.{all_below, names_wrong, fields_wrong, kinds_wrong, owners_of, names_told, kinds_told, sense_in, is_no_field, is_of_no_descriptor, all_field_errors, use_faults, all_use_faults}
 use Rattle.descriptor_checks.specs.Told.{field_owners}
-use Rattle.descriptor_shapes.proofs.Each.{each_of, Each}
+use Rattle.descriptor_shapes.proofs.Each.{Each}
 use Rattle.asl_meaning.specs.Declarations.{nothing_declared}
 use Rattle.acpi_names.proofs.MentionErrors.{block_errors}
 use Rattle.acpi_names.proofs.MentionTypes.{block_types}
@@ -45,8 +46,7 @@ module _ (has : AbsolutePath → Bool) (look : AbsolutePath → Option NamedDesc
 
   pub are_nothing : (ms : List Mention) → Each IsOfNone ms → AreNothing ms
   are_nothing [] h = search
-  are_nothing (m ∷ ms) h =
-      let k : AreNothing ms = are_nothing ms h.1 in search arith
+  are_nothing (m ∷ ms) h = let k : AreNothing ms = are_nothing ms h.1 in search arith
 
   -- a use of a descriptor and of a field of one has a fault
   pub no_senses : (ms : List Mention) → all_use_faults has look ms ≡ [] → Each (IsOfNone) ms
@@ -77,66 +77,50 @@ beside_none b place p ps = grind arith
 
 -- no names: the terms stay, and none declares a descriptor
 
+no_use : (bits value : Bool) (name : Path) → resolved_use bits value name None ≡ a_name name
+no_use bits value name = grind arith
+
+no_fault : (bits value : Bool) (place : Place) → broken_use bits value place None ≡ []
+no_fault bits value place = grind arith
+
 abbrev IsBare : Plan → Type 0
 IsBare p = (names_inside p ≡ []) × (opened p ≡ p) × (closed p ≡ p) × (declared_by p ≡ []) × (named_of p ≡ []) × ((next : ℕ) → named_in next p ≡ [])
+    × ((bits value : Bool) (node : ℕ) → resolved [] bits value node p ≡ p) × ((bits value : Bool) (place : Place) (node : ℕ) → broken [] bits value place node p ≡ [])
 
 abbrev AreBare : Plans → Type 0
 AreBare ps = (names_among ps ≡ []) × (declaring ps ≡ ps) × (stripped ps ≡ ps) × (named_of (plan_at ps 0) ≡ []) × (named_of (plan_at ps 1) ≡ []) × ((next : ℕ) → named_from next ps ≡ [])
+    × ((among : Among) (n : ℕ) (bits : Bool) (node : ℕ) → resolved_from [] among n bits node ps ≡ ps) × ((among : Among) (n : ℕ) (bits : Bool) (node : ℕ) → broken_from [] among n bits node ps ≡ [])
 
 mutual
   is_bare : (p : Plan) → names_descriptor p ≡ false → IsBare p
-  is_bare (a_fill bytes []) e = (refl, refl, refl, refl, refl, λ next. refl)
   is_bare (a_fill bytes (named ∷ others)) e = absurd cc
-  is_bare (a_call name args) e = ((are_bare args e).0, refl, refl, refl, refl, λ next. refl)
+  is_bare (a_name name) e = (refl, refl, refl, refl, refl, λ next. refl, λ bits value node. no_use bits value name, λ bits value place node. no_fault bits value place)
+  is_bare (a_call name args) e = let a : AreBare args = are_bare args e in search (a.0, a.6, a.7)
   is_bare (a_form op args body) e =
       let h = or_parts (names_descriptors args) (names_descriptors body) e in
       let a : AreBare args = are_bare args h.0 in
       let b : AreBare body = are_bare body h.1 in
-      search (a.0, a.4, b.0, b.1, b.2, b.5, either)
-  is_bare _ e = (refl, refl, refl, refl, refl, λ next. refl)
+      search (a.0, a.4, a.6, a.7, b.0, b.1, b.2, b.5, b.6, b.7, either)
+  is_bare _ e = search
 
   are_bare : (ps : Plans) → names_descriptors ps ≡ false → AreBare ps
-  are_bare no_plans e = (refl, refl, refl, refl, refl, λ next. refl)
+  are_bare no_plans e = search
   are_bare (plan place p ps) e =
       let h = or_parts (names_descriptor p) (names_descriptors ps) e in
       let a : IsBare p = is_bare p h.0 in
       let b : AreBare ps = are_bare ps h.1 in
-      search (a.0, a.1, a.2, a.3, a.5, b.0, b.1, b.2, b.5, beside_none (is_first p) place p ps)
-
-none_described : (ms : List Mention) → described [] ms ≡ []
-none_described [] = refl
-none_described (m ∷ ms) = let k = none_described ms in grind arith
+      search (a.0, a.1, a.2, a.3, a.5, a.6, a.7, b.0, b.1, b.2, b.5, b.6, b.7, beside_none (is_first p) place p ps)
 
 abbrev no_descriptor : AbsolutePath → Option NamedDescriptor
 no_descriptor path = None
 
--- no mention is of a descriptor, and nothing is declared below one
-
 mention_none : (has : AbsolutePath → Bool) (m : Mention) → IsOfNone has no_descriptor m
 mention_none has m = grind arith
 
-no_below : (ms : List Mention) → all_below no_descriptor ms ≡ []
-no_below [] = refl
-no_below (m ∷ ms) = let k = no_below ms in grind arith
-
--- no field is a constant
-
-mutual
-  same : (bits value : Bool) (place : Place) (node : ℕ) (p : Plan) → (resolved [] bits value node p ≡ p) × (broken [] bits value place node p ≡ [])
-  same bits value place node (a_name name) = (grind arith, grind arith)
-  same bits value place node (a_call name args) = let h = all_same OfCall 0 bits (suc node) args in (ap (a_call name) h.0, h.1)
-  same bits value place node (a_form op args body) =
-      let h = all_same (Arguments op) 0 bits (suc node) args in
-      let k = all_same (Contents op) 0 bits (suc node + nodes args) body in
-      (rw (h.0, k.0), rw (h.1, k.1))
-  same bits value place node _ = (refl, refl)
-
-  all_same : (among : Among) (n : ℕ) (bits : Bool) (node : ℕ) (ps : Plans) → (resolved_from [] among n bits node ps ≡ ps) × (broken_from [] among n bits node ps ≡ [])
-  all_same among n bits node no_plans = (refl, refl)
-  all_same among n bits node (plan place p ps) =
-      let h = same (bits || is_in_bits among n) (is_value_in among n) place node p in
-      let k = all_same among (suc n) bits (suc (node + inside p)) ps in
-      (rw (h.0, k.0), rw (h.1, k.1))
+-- no mention is of a descriptor, none declares one, and nothing is declared below one
+none_of : (has : AbsolutePath → Bool) (ms : List Mention) → Each (IsOfNone has no_descriptor) ms × (described [] ms ≡ []) × (all_below no_descriptor ms ≡ [])
+none_of has [] = (tt, refl, refl)
+none_of has (m ∷ ms) = let k = none_of has ms in search (arith, mention_none has m)
 
 -- ---- the block
 
@@ -145,18 +129,14 @@ module _ (ps : Plans) (e : names_descriptors ps ≡ false) where
   bare = are_bare ps e
 
   table_none : table_of ps ≡ no_descriptor
-  table_none = ap (λ ns. lookup (described ns (mentions_of ps))) (bare.5 0) ∙ ap (λ ds. lookup ds) (none_described (mentions_of ps))
+  table_none = ap (λ ns. lookup (described ns (mentions_of ps))) (bare.5 0) ∙ ap (λ ds. lookup ds) (none_of (names_of ps) (mentions_of ps)).1
 
   none : HaveNone ps
-  none =
-      let each : (m : Mention) → IsOfNone (names_of ps) (table_of ps) m = subst (λ look. (m : Mention) → IsOfNone (names_of ps) look m) (sym table_none) (mention_none (names_of ps)) in
-      are_nothing (names_of ps) (table_of ps) (mentions_of ps) (each_of (IsOfNone (names_of ps) (table_of ps)) each (mentions_of ps))
-
-  unnamed_fields : fields_of (declaring ps) ≡ []
-  unnamed_fields = ap fields_of bare.1 ∙ none.fields
+  none = let has = names_of ps in subst (λ look. AreNothing has look (mentions_of ps)) (sym table_none)
+      (are_nothing has no_descriptor (mentions_of ps) (none_of has (mentions_of ps)).0)
 
   pub unnamed_checked : checked_terms ps ≡ ps
-  unnamed_checked = ap (λ fields. resolved_from fields OfCall 0 false 0 (declaring ps)) unnamed_fields ∙ (all_same OfCall 0 false 0 (declaring ps)).0 ∙ bare.1
+  unnamed_checked = ap (λ qs. resolved_from (fields_of qs) OfCall 0 false 0 qs) bare.1 ∙ rw none.fields (bare.6 OfCall 0 false 0)
 
   pub unnamed_paths : described_paths ps ≡ (λ path. false)
   unnamed_paths = ap {B = AbsolutePath → Bool} (λ qs path. is_some (table_of qs path)) unnamed_checked ∙ ap {B = AbsolutePath → Bool} (λ look path. is_some (look path)) table_none
@@ -165,7 +145,7 @@ module _ (ps : Plans) (e : names_descriptors ps ≡ false) where
   unnamed_resolved = ap stripped unnamed_checked ∙ bare.2
 
   pub unnamed_broken : broken_fields ps ≡ []
-  unnamed_broken = ap (λ fields. broken_from fields OfCall 0 false 0 (declaring ps)) unnamed_fields ∙ (all_same OfCall 0 false 0 (declaring ps)).1
+  unnamed_broken = ap (λ qs. broken_from (fields_of qs) OfCall 0 false 0 qs) bare.1 ∙ rw none.fields (bare.7 OfCall 0 false 0)
 
   pub unnamed_owners : owners_of (declaring ps) ≡ []
   unnamed_owners = ap owners_of bare.1 ∙ none.owners
@@ -174,7 +154,7 @@ module _ (ps : Plans) (e : names_descriptors ps ≡ false) where
   unnamed_names are =
       ap (λ qs. map message_of (names_wrong qs ++ fields_wrong (declaring ps))) unnamed_checked
       ∙ ap (λ qs. map message_of (names_wrong ps ++ fields_wrong qs)) bare.1
-      ∙ rw (none.errors, names_are ps none are, table_none, no_below (mentions_of ps)) (simp append-nil)
+      ∙ rw (none.errors, names_are ps none are, table_none, (none_of (names_of ps) (mentions_of ps)).2) (simp append-nil)
 
   pub unnamed_kinds : are_terms (numbered_all 0 ps) ≡ true → name_errors (numbered_all 0 ps) ≡ [] → kinds_told ps ≡ map message_of (type_errors (numbered_all 0 ps))
   unnamed_kinds are right =

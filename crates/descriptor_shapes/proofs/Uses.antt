@@ -13,7 +13,7 @@ use Rattle.descriptor_fields.specs.Nodes.{at_node}
 use Rattle.descriptor_shapes.proofs.Like.{Like, LikeInteger, LikeString, LikeSlot, LikeDebug, LikeOmitted, LikeFill, LikeItem, LikeUse, Counted, LikeCall, SameUnit, SameItem, LikeFrom, NoneFrom, MoreFrom}
 use Rattle.descriptor_shapes.proofs.Like.{form_like}
 
--- ---- the second of two plans is the first one, but that names that are expressions may be words: their trees are like, whatever the numbers of their nodes
+-- ---- the second of two plans is the first one, but that names that are expressions may be words: so their trees are like
 
 pub record Resolves (value : Bool) (p q : Plan) : Type 0 where
   pub alike : (at to : At) (next more : ℕ) → Like value (numbered at next p) (numbered to more q)
@@ -28,13 +28,10 @@ IsLeaf (a_call name args) = ⊥
 IsLeaf (a_form op args body) = ⊥
 IsLeaf _ = Unit {0}
 
-leaf_like : {value : Bool} (p : Plan) → IsLeaf p → (at to : At) (next more : ℕ) → Like value (numbered at next p) (numbered to more p)
-unfolding numbered
-leaf_like (a_name name) leaf at to next more = LikeUse name
-leaf_like _ leaf at to next more = search (LikeInteger, LikeString, LikeSlot, LikeDebug, LikeOmitted, LikeFill, LikeItem, SameUnit, SameItem)
-
 pub stays : {value : Bool} (p : Plan) → IsLeaf p → Resolves value p p
-stays p leaf = record { alike = leaf_like p leaf }
+unfolding numbered
+stays (a_name name) leaf = record { alike = λ at to next more. LikeUse name }
+stays _ leaf = record { alike = λ at to next more. search (LikeInteger, LikeString, LikeSlot, LikeDebug, LikeOmitted, LikeFill, LikeItem, SameUnit, SameItem) }
 
 pub in_form : {value : Bool} (op : Op) {args others body more : Plans} → AllResolve (Arguments op) 0 args others → AllResolve (Contents op) 0 body more → Resolves value (a_form op args body) (a_form op others more)
 unfolding numbered
