@@ -28,7 +28,7 @@ use Rattle.program_shapes.proofs.SwitchPlaces.{repeats_within, locals_within}
 use Rattle.program_shapes.proofs.NotePlaces.{source_notes_within}
 use Rattle.asl_tables.proofs.CopyPlaces.{copies_within}
 use Rattle.program_shapes.proofs.TreePlaces.{plans_within, checked_plans_within, program_within}
-use Rattle.descriptor_shapes.proofs.ToldPlaces.{names_told_within, kinds_told_within}
+use Rattle.descriptor_shapes.proofs.Blocks.{names_told_within, kinds_told_within}
 use Rattle.aml_sizes.specs.TableSizes.{most_table_bytes}
 use Rattle.block_outcomes.specs.declared.outcome.Class.{Class}
 use Rattle.block_outcomes.specs.declared.outcome.Class.TheVariants as class

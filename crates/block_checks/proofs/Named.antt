@@ -18,7 +18,7 @@ use Rattle.name_checks.specs.Messages.{message_of, first_errors, told_errors}
 use Rattle.descriptor_fields.specs.Declaring.{names_descriptors}
 use Rattle.descriptor_checks.specs.Resolved.{described_paths, resolved_terms}
 use Rattle.descriptor_checks.specs.Told.{names_told, kinds_told}
-use Rattle.descriptor_shapes.proofs.Unnamed.{unnamed_paths, unnamed_resolved, unnamed_names, unnamed_kinds}
+use Rattle.descriptor_shapes.proofs.Blocks.{unnamed_paths, unnamed_resolved, unnamed_names, unnamed_kinds}
 use Rattle.block_outcomes.specs.Joined.{first_told}
 use Rattle.block_checks.specs.Told.{told_of_names}
 use Rattle.block_checks.specs.Findings.{IsNamed}

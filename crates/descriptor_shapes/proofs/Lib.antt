@@ -1,12 +1,2 @@
-pub mod Like
-pub mod Formed
-pub mod Uses
-pub mod Resolved
-pub mod Terms
-pub mod Each
-pub mod Unnamed
-pub mod TreePlaces
-pub mod MentionPlaces
-pub mod Places
-pub mod ToldPlaces
-pub mod Stripped
+pub mod Forms
+pub mod Blocks

@@ -1,13 +1,13 @@
 -- Where the parts of a plan stand.
-use Rattle.std.specs.Prelude.{ℕ, List, [], ◌∷◌}
+use Rattle.std.specs.Prelude.{ℕ, List}
+use Rattle.std.specs.List.{AllByRecursion}
 use Rattle.asl_tree.specs.declared.term.NamedDescriptor.{NamedDescriptor}
 use Rattle.asl_shape.specs.Plans.{Plan, a_fill, a_call, a_form, Plans, no_plans, plan}
 use Rattle.asl_parser.specs.Within.{IsIn}
 
 -- the names of descriptors stand in some of so many files
 abbrev pub NamesWithin : ℕ → List NamedDescriptor → Type 0
-NamesWithin files [] = Unit {0}
-NamesWithin files (named ∷ others) = IsIn files named.place × NamesWithin files others
+NamesWithin files = AllByRecursion (λ (named : NamedDescriptor). IsIn files named.place)
 
 -- each part of the plan, at any depth, stands in one of so many files
 abbrev mutual

@@ -22,12 +22,15 @@ ghost use Rattle.descriptor_checks.specs.Told.{sense_in, all_below, owners_of, c
 ghost use Rattle.stripped_names.specs.Whole.{AreWhole};
 ghost use Rattle.descriptor_shapes.specs.Places.{PlansWithin};
 
-/// Terms that have their forms have them where fields are constants, and those with the declared descriptors are terms.
+/// Terms that have their forms have them where fields are constants, and those with the declared descriptors are terms, which can be taken
+/// apart: each has a form, and each Name whose value is bytes declares a descriptor.
 pub fn resolved_are_formed()
     ensures formed { (next : ℕ) (ps : Plans) → AreFormed (Unit {0}) AreNamed (Unit {0}) (Unit {0}) (numbered_all next ps) →
         AreFormed (Unit {0}) AreNamed (Unit {0}) (Unit {0}) (numbered_all next (resolved_terms ps)) }
     ensures terms { (next : ℕ) (ps : Plans) → AreFormed (Unit {0}) AreNamed (Unit {0}) (Unit {0}) (numbered_all next ps) →
         are_terms (checked_trees ps) ≡ true }
+    ensures whole { (next : ℕ) (ps : Plans) → AreFormed (Unit {0}) AreNamed (Unit {0}) (Unit {0}) (numbered_all next ps) →
+        AreWhole (checked_terms ps) }
 {}
 
 /// Where no descriptor has a name the terms stay as they are, no field of one is used, no path is that of one, and what is told of
@@ -48,7 +51,6 @@ pub fn unnamed_stay()
 pub fn places_stay()
     ensures checked { (files : ℕ) (ps : Plans) → PlansWithin files ps → PlansWithin files (checked_terms ps) }
     ensures resolved { (files : ℕ) (ps : Plans) → PlansWithin files ps → PlansWithin files (resolved_terms ps) }
-    ensures fields { (files : ℕ) (ps : Plans) → PlansWithin files ps → All (λ (m : Message). m.place.file < files) (broken_fields ps) }
     ensures names { (files : ℕ) (ps : Plans) → PlansWithin files ps → All (λ (m : Message). m.place.file < files) (names_told ps) }
     ensures kinds { (files : ℕ) (ps : Plans) → PlansWithin files ps → All (λ (m : Message). m.place.file < files) (kinds_told ps) }
 {}
@@ -64,12 +66,6 @@ pub fn untold_are_right()
         All (λ (m : Mention). sense_in (names_of (checked_terms ps)) (table_of (checked_terms ps)) m ≡ Nothing)
         (mentions_of (checked_terms ps)) }
     ensures below { (ps : Plans) → names_told ps ≡ [] → all_below (table_of (checked_terms ps)) (mentions_of (checked_terms ps)) ≡ [] }
-{}
-
-/// The terms with those that declare descriptors have forms, and each Name whose value is bytes declares one of them.
-pub fn checked_are_whole()
-    ensures { (next : ℕ) (ps : Plans) → AreFormed (Unit {0}) AreNamed (Unit {0}) (Unit {0}) (numbered_all next ps) →
-        AreWhole (checked_terms ps) }
 {}
 
 /// Where nothing is told of the names, the kinds and the uses of a formed block, nothing is wrong with the terms that are compiled, and

@@ -18,7 +18,7 @@ use Rattle.descriptor_checks.specs.Resolved.{checked_terms, names_of, mentions_o
 use Rattle.descriptor_checks.specs.Told.{owners_of}
 use Rattle.acpi_names.specs.Mentions.{Mention, Declares, block_mentions}
 use Rattle.named_sessions.specs.Places.{AreWithin}
-use Rattle.descriptor_shapes.proofs.MentionPlaces.{IsMentionedIn, AreMentionedIn, block_in}
+use Rattle.descriptor_shapes.proofs.Blocks.{IsMentionedIn, AreMentionedIn, block_in}
 use Rattle.name_notes.specs.Notes.{told_if, reserved_arguments, method_arguments, is_other, method_of, is_among, is_used_in, mention_notes, all_notes, mentioned_notes}
 use Rattle.program_shapes.proofs.ListPlaces.{as_all}
 use Rattle.program_shapes.proofs.TreePlaces.{program_within}

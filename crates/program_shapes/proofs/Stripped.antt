@@ -15,8 +15,7 @@ use Rattle.asl_shape.specs.Forms.{errors_at}
 use Rattle.asl_numbers.specs.Numbers.{numbered_all}
 use Rattle.named_sessions.specs.Shaped.{AreFormed, AreNamed}
 use Rattle.descriptor_checks.specs.Resolved.{table_of}
-use Rattle.descriptor_shapes.proofs.Stripped.{resolved_names, resolved_kinds, resolved_calls, resolved_index}
-use Rattle.descriptor_shapes.proofs.Terms.{checked_are_terms}
+use Rattle.descriptor_shapes.proofs.Blocks.{checked_are_terms, resolved_names, resolved_kinds, resolved_calls, resolved_index}
 use Rattle.program_shapes.specs.Kept.{IsKeptSource}
 use Rattle.program_shapes.specs.Sources.{source_in, names_in, uses_in, checked_in, program_in, terms_in, IsRight}
 use Rattle.program_shapes.proofs.Blocks.{terms_as}

@@ -42,7 +42,7 @@ use Rattle.program_shapes.proofs.Lists.{plans_laid}
 use Rattle.program_shapes.proofs.Laid.{terms_laid}
 use Rattle.program_shapes.proofs.Near.{plans_near}
 use Rattle.program_shapes.proofs.Stripped.{right_names, right_kinds}
-use Rattle.descriptor_shapes.proofs.Resolved.{resolved_formed}
+use Rattle.descriptor_shapes.proofs.Blocks.{resolved_formed}
 use Rattle.program_shapes.specs.Sources.{source_in, plans_in, terms_in, statements_in, layouts_in, fields_in, width_in, lowered_in, core_in, described_in, spelled_in, table_in, IsRight, IsTableOfSource}
 use Rattle.program_shapes.proofs.Folded.{does_unfolded}
 use Rattle.program_shapes.proofs.Wrapped.{does_unwrapped}

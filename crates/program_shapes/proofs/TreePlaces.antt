@@ -7,8 +7,7 @@ use Rattle.asl_numbers.specs.Numbers.{numbered_all}
 use Rattle.named_sessions.specs.Places.{AreWithin}
 use Rattle.descriptor_checks.specs.Resolved.{checked_terms, resolved_terms}
 use Rattle.descriptor_shapes.specs.Places.{PlansWithin}
-use Rattle.descriptor_shapes.proofs.Places.{checked_within, resolved_within}
-use Rattle.descriptor_shapes.proofs.TreePlaces.{numbered_within}
+use Rattle.descriptor_shapes.proofs.Blocks.{checked_within, resolved_within, numbered_within}
 use Rattle.program_shapes.proofs.Places.{terms_within}
 
 -- its terms with the fields of its descriptors as constants

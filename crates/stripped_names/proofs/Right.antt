@@ -11,7 +11,7 @@ use Rattle.asl_shape.specs.Plans.{Plans}
 use Rattle.asl_numbers.specs.Numbers.{numbered_all}
 use Rattle.descriptor_fields.specs.Declaring.{stripped}
 use Rattle.unused_names.specs.Left.{left_terms, is_descriptor, DescriptorsAreApart}
-use Rattle.unused_names.proofs.Left.{terms_left}
+use Rattle.unused_names.proofs.Left.{terms_same, terms_left}
 use Rattle.unused_names.proofs.Program.{names_stay, kinds_stay, named_left, calls_left, flags_left}
 use Rattle.unused_names.proofs.Bare.{same_terms, same_whole, same_names, same_kinds}
 use Rattle.stripped_names.specs.Whole.{AreWhole}
@@ -25,6 +25,9 @@ left ps = numbered_all 0 (stripped ps)
 
 pub stripped_terms : (ps : Plans) → AreWhole ps → are_terms (program ps) ≡ true → are_terms (left ps) ≡ true
 stripped_terms ps whole are = same_terms (left_terms (program ps)) (left ps) (terms_left (program ps) are) (all_left ps 0 0 whole)
+
+pub terms_stripped : (ps : Plans) (more : ℕ) → AreWhole ps → are_terms (numbered_all more (stripped ps)) ≡ true → are_terms (program ps) ≡ true
+terms_stripped ps more whole are = sym (terms_same (program ps)) ∙ same_terms (numbered_all more (stripped ps)) (left_terms (program ps)) are (sym (all_left ps 0 more whole))
 
 pub stripped_names : (ps : Plans) → AreWhole ps → are_terms (program ps) ≡ true → name_errors (program ps) ≡ [] → DescriptorsAreApart (program ps) → name_errors (left ps) ≡ []
 stripped_names ps whole are names apart =

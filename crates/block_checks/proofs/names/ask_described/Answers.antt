@@ -16,7 +16,7 @@ use Rattle.descriptor_fields.specs.Declaring.{declaring}
 use Rattle.descriptor_checks.specs.Fields.{paths_at}
 use Rattle.descriptor_checks.specs.Resolved.{checked_terms, table_of}
 use Rattle.descriptor_checks.specs.Told.{checked_trees, owners_of}
-use Rattle.descriptor_shapes.proofs.Terms.{checked_are_terms}
+use Rattle.descriptor_shapes.proofs.Blocks.{checked_are_terms}
 use Rattle.block_outcomes.specs.Joined.{first_told}
 use Rattle.block_checks.proofs.Owners.{notes_numbered, are_numbered}
 use Rattle.block_checks.proofs.names.ask_described.Goals as goal

@@ -12,7 +12,7 @@ use Rattle.descriptor_fields.specs.Declaring.{declaring, names_descriptors, stri
 use Rattle.descriptor_checks.specs.Resolved.{checked_terms, mentions_of, names_of}
 use Rattle.descriptor_checks.specs.Resolves.{AreUses}
 use Rattle.descriptor_checks.specs.Told.{checked_trees, owners_of}
-use Rattle.descriptor_shapes.proofs.Unnamed.{unnamed_checked, unnamed_resolved, unnamed_owners}
+use Rattle.descriptor_shapes.proofs.Blocks.{unnamed_checked, unnamed_resolved, unnamed_owners}
 use Rattle.block_checks.proofs.Named.{unnamed_named}
 use Rattle.block_checks.proofs.names.named_terms.Goals as goal
 

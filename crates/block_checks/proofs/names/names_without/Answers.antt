@@ -14,8 +14,7 @@ use Rattle.acpi_names.proofs.Mentions.{after_block}
 use Rattle.name_kinds.proofs.Seeing.{block_seen}
 use Rattle.descriptor_checks.specs.Resolved.{checked_terms, resolved_terms, described_paths, table_of}
 use Rattle.descriptor_checks.specs.Told.{names_told, kinds_told}
-use Rattle.descriptor_shapes.proofs.Stripped.{resolved_names, resolved_kinds, resolved_calls, resolved_index}
-use Rattle.descriptor_shapes.proofs.Terms.{checked_are_terms}
+use Rattle.descriptor_shapes.proofs.Blocks.{checked_are_terms, resolved_names, resolved_kinds, resolved_calls, resolved_index}
 use Rattle.block_checks.proofs.Named.{both_first, noted_flags}
 use Rattle.block_checks.proofs.names.names_without.Goals as goal
 

@@ -1,4 +1,4 @@
-use Rattle.descriptor_shapes.proofs.Stripped.{resolved_names, resolved_kinds, resolved_calls, resolved_index}
+use Rattle.descriptor_shapes.proofs.Blocks.{resolved_names, resolved_kinds, resolved_calls, resolved_index}
 use Rattle.descriptor_shapes.proofs.laws.untold_are_resolved.Goals as goal
 
 pub returns : goal.returns

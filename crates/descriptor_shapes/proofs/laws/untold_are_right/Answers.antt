@@ -1,4 +1,4 @@
-use Rattle.descriptor_shapes.proofs.Stripped.{untold_names, untold_kinds, untold_uses, untold_below}
+use Rattle.descriptor_shapes.proofs.Blocks.{untold_names, untold_kinds, untold_uses, untold_below}
 use Rattle.descriptor_shapes.proofs.laws.untold_are_right.Goals as goal
 
 pub returns : goal.returns
