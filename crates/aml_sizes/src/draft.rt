@@ -44,7 +44,7 @@ pub(crate) fn blank(
 {
     Ok(Piece {
         place,
-        source: Text::from_bytes(alloc, lines.text_at(place))?,
+        source: lines.text_at(alloc, place)?,
         bytes: Text::new(alloc),
     })
 }

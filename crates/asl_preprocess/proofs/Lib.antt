@@ -1,5 +1,6 @@
 pub mod FileLines
 pub mod Cuts
+pub mod Parts
 pub mod Quotes
 pub mod Slashes
 pub mod Names

@@ -5,7 +5,6 @@ use Rattle.std.specs.List.{list_any}
 use Rattle.std.specs.Option.{ForSome}
 use Rattle.std.proofs.lemmas.List.{length-append}
 use Rattle.iasl_ports.specs.Gained.{Named}
-use Rattle.iasl_ports.specs.Counts.{Rose}
 use Rattle.iasl_ports.specs.Fetched.{same_name}
 use Rattle.iasl_messages.specs.declared.place.Place.{Place}
 use Rattle.asl_directives.specs.declared.branches.Branch.{Branch}

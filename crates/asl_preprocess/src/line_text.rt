@@ -1,17 +1,22 @@
 //! The text of a line.
 ghost use Rattle.std.specs.Prelude.{◌≡◌, true, false};
 ghost use Rattle.asl_directives.specs.Words.{past_blanks as past_blanks_of};
-ghost use Rattle.asl_preprocess.specs.Cuts.{AsksNothing};
+ghost use Rattle.asl_preprocess.specs.Cuts.{AsksNothing, StandsAt};
 ghost use Rattle.asl_preprocess.specs.OwnName.{LacksOwnName};
 
 use asl_directives::words::past_blanks;
+use iasl_ports::shared::SharedBytes;
 
-/// The text of a line; whether it is plain: it has neither a `"` nor a `/`; and whether `__IASL__` may stand in it.
+/// The text of a line; its file's bytes, and how many of them stand before it; whether it is plain: it has neither a `"` nor a
+/// `/`; and whether `__IASL__` may stand in it.
 #[derive(Clone, Copy)]
 pub(crate) struct LineText<'a> {
     pub(crate) whole: &'a [u8],
+    pub(crate) file: &'a SharedBytes,
+    pub(crate) start: usize,
     pub(crate) plain: bool,
     pub(crate) names_own: bool,
+    ghost stands: { StandsAt whole.now start file.now },
     ghost asks_nothing: { AsksNothing plain whole.now },
     ghost lacks: { names_own ≡ false → LacksOwnName whole.now },
 }

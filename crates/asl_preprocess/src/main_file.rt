@@ -19,6 +19,7 @@ use iasl_messages::number::TEXT_IS_TOO_LARGE;
 use iasl_messages::place::{LineList, Lines, Place};
 use iasl_ports::files::{FetchFault, Files};
 use iasl_ports::list::{Text, Texts};
+use iasl_ports::shared::SharedBytes;
 use std::alloc::{AllocError, Global};
 use std::mem::replace;
 
@@ -112,7 +113,7 @@ fn read_main<F: Files>(
     alloc: Global,
     files: &mut F,
     name: &str,
-    bytes: &[u8],
+    bytes: &SharedBytes,
     dirs: &Texts,
     defines: &Defines,
     enabled: bool,
@@ -219,7 +220,10 @@ pub fn preprocess<F: Files>(
     ensures later { F.faults files.old ≤ F.faults files.new }
 {
     match files.fetch(alloc, name) {
-        Ok(bytes) => read_main(alloc, files, name, &bytes, dirs, defines, enabled),
+        Ok(bytes) => match SharedBytes::from_vec(alloc, bytes) {
+            Ok(bytes) => read_main(alloc, files, name, &bytes, dirs, defines, enabled),
+            Err(AllocError) => Err(PreStop::Memory),
+        },
         Err(fault) => Err(unread(alloc, name, fault)),
     }
 }

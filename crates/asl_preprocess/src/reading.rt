@@ -25,6 +25,7 @@ use iasl_messages::number::{
 use iasl_messages::place::Place;
 use iasl_ports::files::Files;
 use iasl_ports::list::{Text, Texts};
+use iasl_ports::shared::SharedBytes;
 use std::alloc::{AllocError, Global};
 
 /// What holds for all files: the further directories, and whether the preprocessor is enabled.
@@ -77,7 +78,7 @@ fn take_row(
 struct Fetched {
     number: u32,
     name: Text,
-    bytes: Vec<u8>,
+    bytes: SharedBytes,
 }
 
 // The file that is asked for in the file of the name `own`.
@@ -93,10 +94,10 @@ fn seek<F: Files>(
         Shows work.new (with_files state (with_file found.name state.files))) }
     ensures number { IfOk result (λ found. found.number ≡ number_of found.name work.new.files) }
     ensures within { IfOk result (λ found. found.number < length work.new.files) }
-    ensures size { IfOk result (λ found. length found.bytes.items ≤ most_bytes) }
+    ensures size { IfOk result (λ found. length found.bytes ≤ most_bytes) }
     ensures found { IfOk result
         (λ found. ForSome (F.contents files.old)
-        (λ told. searched told (names_of directories.now own.now (asked_for wanted.now)) ≡ Whole found.name found.bytes.items)) }
+        (λ told. searched told (names_of directories.now own.now (asked_for wanted.now)) ≡ Whole found.name found.bytes)) }
     ensures refused { IfErr result (λ stop. SeekStops stop wanted.now work.old.files work.new.files (F.contents files.old)
         (λ told. searched told (names_of directories.now own.now (asked_for wanted.now)))) }
     ensures fault { IfErr result (λ stop. Counts stop (F.faults files.old) (F.faults files.new)) }
@@ -106,11 +107,14 @@ fn seek<F: Files>(
 {
     match search_for(alloc, files, directories, own, wanted) {
         Ok(SearchResult::Whole { name, bytes }) => match work.add_file(alloc, name.as_bytes()) {
-            Ok(number) => Ok(Fetched {
-                number,
-                name,
-                bytes,
-            }),
+            Ok(number) => match SharedBytes::from_vec(alloc, bytes) {
+                Ok(bytes) => Ok(Fetched {
+                    number,
+                    name,
+                    bytes,
+                }),
+                Err(AllocError) => Err(ReadingStop::Memory),
+            },
             Err(AllocError) => Err(ReadingStop::Memory),
         },
         Ok(SearchResult::Missing) => Err(refusal(
@@ -225,7 +229,7 @@ pub(crate) fn read_file<F: Files>(
     files: &mut F,
     setting: &Setting<'_>,
     file: &OpenFile<'_>,
-    bytes: &[u8],
+    bytes: &SharedBytes,
     work: &mut Work,
 ) -> Result<(), ReadingStop>
     requires { length bytes.now ≤ most_bytes }

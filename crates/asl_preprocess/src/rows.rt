@@ -7,12 +7,12 @@ ghost use Rattle.iasl_messages.specs.Cut.{without_cr as without_cr_of};
 ghost use Rattle.asl_fragments.specs.Fragments.{ends_in_comment as ends_in_comment_of};
 ghost use Rattle.asl_preprocess.specs.Rows as spec;
 ghost use Rattle.asl_preprocess.specs.OwnName.{LacksOwnName};
-ghost use Rattle.asl_preprocess.specs.Cuts.{IsClosed, IsPlainBelow, AsksNothing};
+ghost use Rattle.asl_preprocess.specs.Cuts.{IsClosed, IsPlainBelow, AsksNothing, IsFront, IsEnd};
 
 use crate::line_text::{LineText, behind_blanks};
 use crate::work::OWN_NAME;
 use asl_fragments::ends_in_comment;
-use iasl_messages::cut::cut_line;
+use iasl_ports::shared::SharedBytes;
 use memchr::{memchr, memchr3, memmem};
 use std::alloc::{AllocError, Global};
 
@@ -40,28 +40,32 @@ fn without_cr(line: &[u8]) -> &[u8]
     }
 }
 
-// The first line of a text that is not empty, and what stands behind it.
-#[tactic(auto, using(crate::proofs::FileLines::lines_then, crate::proofs::FileLines::lines_last))]
-fn any_line(text: &[u8]) -> (&[u8], &[u8])
-    requires { 0 < length text.now }
-    ensures { spec.file_lines text.now ≡ result.0.now ∷ spec.file_lines result.1.now }
-{
-    match cut_line(text) {
-        Some(cut) => cut,
-        None => text.split_at(text.len()),
-    }
-}
-
 // A text that is not empty, cut at this place, where its first LF stands.
 fn cut_at(text: &[u8], place: usize) -> (&[u8], &[u8])
     requires lf { position (λ c. c == 10) text.now ≡ Some place }
     requires within { place < length text.now }
     ensures cut { spec.file_lines text.now ≡ result.0.now ∷ spec.file_lines result.1.now }
     ensures line { result.0.now ≡ without_cr_of (take place text.now) }
+    ensures front { IsFront result.0.now text.now }
+    ensures end { IsEnd result.1.now text.now }
 {
     let line = text.split_at(place).0;
     let rest = text.split_at(place + 1).1;
     (without_cr(line), rest)
+}
+
+// The first line of a text that is not empty, and what stands behind it.
+#[tactic(auto, using(crate::proofs::FileLines::lines_last))]
+fn any_line(text: &[u8]) -> (&[u8], &[u8])
+    requires { 0 < length text.now }
+    ensures cut { spec.file_lines text.now ≡ result.0.now ∷ spec.file_lines result.1.now }
+    ensures front { IsFront result.0.now text.now }
+    ensures end { IsEnd result.1.now text.now }
+{
+    match memchr(b'\n', text) {
+        Some(place) => cut_at(text, place),
+        None => text.split_at(text.len()),
+    }
 }
 
 // The place of the first LF of a text, where neither a `"` nor a `/` stands before it.
@@ -83,6 +87,8 @@ fn plain_end(text: &[u8]) -> Option<usize>
 fn first_line(text: &[u8]) -> Option<(&[u8], &[u8], bool)>
     ensures line { MatchOption result (spec.file_lines text.now ≡ [])
         (λ cut. spec.file_lines text.now ≡ cut.0.now ∷ spec.file_lines cut.1.now) }
+    ensures front { IfSome result (λ cut. IsFront cut.0.now text.now) }
+    ensures end { IfSome result (λ cut. IsEnd cut.1.now text.now) }
     ensures closed { IfSome result (λ cut. IsClosed cut.2 cut.0.now) }
     ensures asks_nothing { IfSome result (λ cut. AsksNothing cut.2 cut.0.now) }
 {
@@ -141,14 +147,16 @@ fn names_own(bytes: &[u8]) -> bool
     memmem::find(bytes, &OWN_NAME).is_some()
 }
 
-/// What is left of a file to be read, whether directives are looked for, and whether `__IASL__` may stand in it.
+/// A file's bytes and what is left of them to be read, whether directives are looked for, and whether `__IASL__` may stand in it.
 #[derive(Drop)]
 pub(crate) struct Rows<'a> {
+    file: &'a SharedBytes,
     rest: &'a [u8],
     number: u32,
     in_comment: bool,
     enabled: bool,
     names_own: bool,
+    ghost end: { IsEnd rest.now file.now },
     ghost lack: { names_own ≡ false → All LacksOwnName (spec.file_lines rest.now) },
 }
 
@@ -158,12 +166,14 @@ impl<'a> Rows<'a> {
 
     /// All rows of a file.
     #[tactic(auto, using(crate::proofs::FileLines::count_file_lines))]
-    pub(crate) fn new(bytes: &'a [u8], enabled: bool) -> Self
-        requires { length bytes.now ≤ most_bytes }
-        ensures rows { rows_left result ≡ spec.rows_of enabled bytes.now }
+    pub(crate) fn new(file: &'a SharedBytes, enabled: bool) -> Self
+        requires { length file.now ≤ most_bytes }
+        ensures rows { rows_left result ≡ spec.rows_of enabled file.now }
         ensures room { result.number + lines_left result < 2 ^ 32 }
     {
+        let bytes = file.as_bytes();
         Rows {
+            file,
             rest: bytes,
             number: 0,
             in_comment: false,
@@ -177,6 +187,7 @@ impl<'a> Rows<'a> {
         requires { self.old.number + lines_left self.old < 2 ^ 32 }
         ensures line { MatchOption result (spec.file_lines self.old.rest.now ≡ [])
             (λ line. spec.file_lines self.old.rest.now ≡ line.0.now ∷ spec.file_lines self.new.rest.now) }
+        ensures front { IfSome result (λ line. IsFront line.0.now self.old.rest.now) }
         ensures closed { IfSome result (λ line. IsClosed line.1 line.0.now) }
         ensures asks_nothing { IfSome result (λ line. AsksNothing line.1 line.0.now) }
         ensures lacks { IfSome result (λ line. self.new.names_own ≡ false → LacksOwnName line.0.now) }
@@ -220,6 +231,8 @@ impl<'a> Rows<'a> {
             (λ row. MatchOption row (rows_left self.old ≡ []) (λ row. rows_left self.old ≡ row_by row ∷ rows_left self.new)) }
         ensures room { self.new.number + lines_left self.new ≡ self.old.number + lines_left self.old }
     {
+        let file = self.file;
+        let start = file.as_bytes().len() - self.rest.len();
         let Some((whole, plain)) = self.next_line() else {
             return Ok(None);
         };
@@ -236,6 +249,8 @@ impl<'a> Rows<'a> {
             in_comment,
             text: LineText {
                 whole,
+                file,
+                start,
                 plain,
                 names_own: self.names_own,
             },

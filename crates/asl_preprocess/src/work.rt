@@ -46,14 +46,15 @@ impl Drop for Work {
     }
 }
 
-// A text as it is, if it has room.
-fn whole(alloc: Global, text: &[u8], room: usize) -> Result<Text, ReplaceStop>
-    ensures { Leaves result room text.now }
+// A line's text as it is, if it has room.
+fn whole(alloc: Global, text: &LineText<'_>, room: usize) -> Result<Text, ReplaceStop>
+    ensures { Leaves result room text.now.whole.now }
 {
-    if text.len() > room {
+    let count = text.whole.len();
+    if count > room {
         return Err(ReplaceStop::TooLong);
     }
-    Ok(Text::from_bytes(alloc, text)?)
+    Ok(Text::part_of(alloc, text.file, text.start, count)?)
 }
 
 fn is_own(name: &[u8]) -> bool
@@ -166,7 +167,7 @@ impl Work {
             Leaves result room (text_left enabled state.history line.now.in_comment line.now.text.whole.now) }
     {
         if self.stays(enabled, line) {
-            return whole(alloc, line.text.whole, room);
+            return whole(alloc, &line.text, room);
         }
         let left = replace_names(
             alloc,

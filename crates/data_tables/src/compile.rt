@@ -111,7 +111,7 @@ fn with_text(alloc: Global, lines: &SourceLines<'_>, piece: Piece) -> Result<Pie
 {
     Ok(Piece {
         place: piece.place,
-        source: Text::from_bytes(alloc, lines.text_at(piece.place))?,
+        source: lines.text_at(alloc, piece.place)?,
         bytes: piece.bytes,
     })
 }

@@ -4,6 +4,7 @@ ghost use Rattle.std.specs.Option.{option_copied};
 ghost use Rattle.std.specs.Char.{to_ascii_uppercase};
 ghost use Rattle.iasl_ports.specs.Texts.{bytes_of};
 
+use crate::shared::SharedBytes;
 use std::alloc::{AllocError, Global};
 use std::marker::Model;
 
@@ -99,19 +100,37 @@ const INLINE: usize = 14;
 /// The most bytes of a text that takes one piece of memory; with what the allocator keeps for itself that piece has 64 bytes.
 const BOXED: usize = 56;
 
+/// The most bytes of a text that is a part of others.
+const PART: usize = 65_535;
+
+/// The most bytes that stand before a text in the bytes that it is a part of.
+const BEFORE: usize = 4_294_967_295;
+
 /// Where the bytes of a text are.
 #[derive(Drop)]
 enum Bytes {
     /// In the text itself: the first of these, so many.
-    Inline { bytes: [u8; INLINE], count: u8 },
+    Inline {
+        bytes: [u8; INLINE],
+        count: u8,
+    },
     /// In a box: the first of these, so many.
-    Boxed { count: u8, bytes: Box<[u8; BOXED]> },
+    Boxed {
+        count: u8,
+        bytes: Box<[u8; BOXED]>,
+    },
     /// In a vector of their own.
     Vector(Box<Vec<u8>>),
+    /// Among bytes that others share: those behind the first `start`, so many.
+    Part {
+        count: u16,
+        start: u32,
+        bytes: SharedBytes,
+    },
 }
 
-/// A list of bytes, of 16 bytes itself. One of at most 14 bytes takes no memory beside these, a copy of at most 56 bytes takes one
-/// piece, a longer one two.
+/// A list of bytes, of 16 bytes itself. One of at most 14 bytes takes no memory beside these, nor does a copy of a part of shared
+/// bytes; a copy of at most 56 bytes takes one piece, a longer one two.
 pub struct Text {
     bytes: Bytes,
 }
@@ -152,6 +171,13 @@ pub fn behind(bytes: &[u8], count: usize) -> &[u8]
     } else {
         b""
     }
+}
+
+// Those of the shared bytes that stand behind the first so many, of at most so many.
+fn part(bytes: &SharedBytes, start: usize, count: usize) -> &[u8]
+    ensures { result.now ≡ take count (drop start bytes.now) }
+{
+    front(behind(bytes.as_bytes(), start), count)
 }
 
 // These bytes, of which there are few, in the text itself.
@@ -236,8 +262,41 @@ impl Text {
                     count: *count,
                 },
             }),
+            Bytes::Part {
+                count,
+                start,
+                bytes,
+            } => Ok(Text {
+                bytes: Bytes::Part {
+                    count: *count,
+                    start: *start,
+                    bytes: bytes.share()?,
+                },
+            }),
             _ => Text::from_bytes(alloc, self.as_bytes()),
         }
+    }
+
+    /// The text of those of the shared bytes that stand behind the first `start`, of at most so many. It takes no memory where it
+    /// has at most 65,535 bytes and stands in the first 4 GiB.
+    pub fn part_of(
+        alloc: Global,
+        bytes: &SharedBytes,
+        start: usize,
+        count: usize,
+    ) -> Result<Text, AllocError>
+        ensures { IfOk result (λ text. text ≡ take count (drop start bytes.now)) }
+    {
+        if count <= INLINE || count > PART || start > BEFORE {
+            return Text::from_bytes(alloc, part(bytes, start, count));
+        }
+        Ok(Text {
+            bytes: Bytes::Part {
+                count: count as u16,
+                start: start as u32,
+                bytes: bytes.share()?,
+            },
+        })
     }
 
     /// A text of the same bytes with their letters in upper case.
@@ -294,6 +353,11 @@ impl Text {
             Bytes::Inline { bytes, count } => front(bytes, *count as usize),
             Bytes::Boxed { count, bytes } => front(&**bytes, *count as usize),
             Bytes::Vector(bytes) => bytes,
+            Bytes::Part {
+                count,
+                start,
+                bytes,
+            } => part(bytes, *start as usize, *count as usize),
         }
     }
 }

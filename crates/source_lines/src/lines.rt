@@ -1,5 +1,6 @@
 //! Lines by file and number.
-ghost use Rattle.std.specs.Prelude.{◌≡◌, IfOk, MatchOption};
+ghost use Rattle.std.specs.Prelude.{◌≡◌, [], IfOk, MatchOption};
+ghost use Rattle.std.specs.Option.{option_map_or};
 ghost use Rattle.std.proofs.Props.{props};
 ghost use Rattle.source_lines.specs.Order.{IsAscending};
 ghost use Rattle.source_lines.specs.Tells.{text_for, Tells};
@@ -7,6 +8,7 @@ ghost use Rattle.source_lines.specs.Text.{line_text};
 
 use crate::order::{ascends, text_in_order};
 use iasl_messages::place::{Line, Place};
+use iasl_ports::list::Text;
 use std::alloc::{AllocError, Global};
 use std::collections::HashMap;
 use std::marker::Model;
@@ -35,7 +37,7 @@ struct LineNumber {
 fn texts_of<'a>(
     alloc: Global,
     lines: &'a [Line],
-) -> Result<HashMap<LineNumber, &'a [u8]>, AllocError>
+) -> Result<HashMap<LineNumber, &'a Text>, AllocError>
     ensures { IfOk result (λ texts. Tells texts lines.now) }
 {
     let mut texts = HashMap::new(alloc);
@@ -47,21 +49,21 @@ fn texts_of<'a>(
             file: line.file,
             number: line.number,
         };
-        texts.insert(number, line.text.as_bytes())?;
+        texts.insert(number, &line.text)?;
     }
     Ok(texts)
 }
 
-fn text_in<'a>(texts: &HashMap<LineNumber, &'a [u8]>, place: Place) -> &'a [u8]
-    ensures { result.now ≡ text_for texts.now place }
+fn text_in<'a>(texts: &HashMap<LineNumber, &'a Text>, place: Place) -> Option<&'a Text>
+    ensures { option_map_or (λ text. text.now) result [] ≡ text_for texts.now place }
 {
     let number = LineNumber {
         file: place.file,
         number: place.line,
     };
     match texts.get(&number) {
-        Some(text) => text,
-        None => &[],
+        Some(text) => Some(text),
+        None => None,
     }
 }
 
@@ -70,7 +72,7 @@ fn text_in<'a>(texts: &HashMap<LineNumber, &'a [u8]>, place: Place) -> &'a [u8]
 pub struct SourceLines<'a> {
     lines: &'a [Line],
     // None where the lines stand in the order of their files and numbers.
-    texts: Option<HashMap<LineNumber, &'a [u8]>>,
+    texts: Option<HashMap<LineNumber, &'a Text>>,
     ghost tells: { MatchOption texts (IsAscending lines.now) (λ table. Tells table lines.now) } by { Prim.hlevel props },
 }
 
@@ -105,13 +107,23 @@ impl<'a> SourceLines<'a> {
         })
     }
 
-    /// The text of the first of the lines that has the place's file and line; empty where there is none.
-    pub fn text_at(&self, place: Place) -> &'a [u8]
-        ensures { result.now ≡ line_text self.now place }
+    // The text of the first of the lines that has the place's file and line.
+    fn find(&self, place: Place) -> Option<&'a Text>
+        ensures { option_map_or (λ text. text.now) result [] ≡ line_text self.now place }
     {
         match &self.texts {
             Some(texts) => text_in(texts, place),
             None => text_in_order(self.lines, place),
+        }
+    }
+
+    /// A copy of the text of the first of the lines that has the place's file and line; empty where there is none.
+    pub fn text_at(&self, alloc: Global, place: Place) -> Result<Text, AllocError>
+        ensures { IfOk result (λ text. text ≡ line_text self.now place) }
+    {
+        match self.find(place) {
+            Some(text) => text.copy(alloc),
+            None => Ok(Text::new(alloc)),
         }
     }
 }

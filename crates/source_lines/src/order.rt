@@ -1,9 +1,11 @@
 //! Lines that stand in the order of their files and numbers.
-ghost use Rattle.std.specs.Prelude.{true, ◌≡◌, ◌<◌, ◌≤◌, ◌&&◌, ℕ, nat_eq, length, slice_index};
+ghost use Rattle.std.specs.Prelude.{true, ◌≡◌, ◌<◌, ◌≤◌, ◌&&◌, ℕ, [], nat_eq, length, slice_index};
+ghost use Rattle.std.specs.Option.{option_map_or};
 ghost use Rattle.source_lines.specs.Order.{rank as rank_of, ranks, IsAscending};
 ghost use Rattle.source_lines.specs.Text.{line_text};
 
 use iasl_messages::place::{Line, Place};
+use iasl_ports::list::Text;
 
 // Where a line stands among all: by its file, and then by its number.
 fn rank(file: u32, number: u32) -> u64
@@ -79,15 +81,15 @@ fn index_of(lines: &[Line], place: Place) -> usize
     }
 }
 
-/// The text of the line that has the place's file and line; empty where there is none.
-pub(crate) fn text_in_order(lines: &[Line], place: Place) -> &[u8]
+/// The text of the line that has the place's file and line; none where there is no such line.
+pub(crate) fn text_in_order(lines: &[Line], place: Place) -> Option<&Text>
     requires { IsAscending lines.now }
-    ensures { result.now ≡ line_text lines.now place }
+    ensures { option_map_or (λ text. text.now) result [] ≡ line_text lines.now place }
 {
     let index = index_of(lines, place);
     if index < lines.len() && is_at(&lines[index], place) {
-        lines[index].text.as_bytes()
+        Some(&lines[index].text)
     } else {
-        b""
+        None
     }
 }

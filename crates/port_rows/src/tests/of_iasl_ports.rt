@@ -3,6 +3,7 @@ use iasl_ports::files::{FetchFault, Files};
 use iasl_ports::list::Text;
 use iasl_ports::memory::{MemoryFiles, MemoryOutputs, MemorySink};
 use iasl_ports::outputs::{Outputs, PutFault};
+use iasl_ports::shared::SharedBytes;
 use iasl_ports::sink::{Sink, SinkFault, write_all};
 use iasl_runs::deliver::deliver;
 use std::alloc::{AllocError, Global};
@@ -151,5 +152,32 @@ fn texts_of_every_length_keep_their_bytes(rt: HostRuntime) -> Result<(), AllocEr
     assert!(rt; short.as_bytes() == b"_AB.Z09[`{".as_slice());
     let long = Text::from_uppercase(alloc, b"\\abcd.efgh.ijkl")?;
     assert!(rt; long.as_bytes() == b"\\ABCD.EFGH.IJKL".as_slice());
+    Ok(())
+}
+
+// Where parts of a text begin, how many bytes are asked for, and which there are.
+static PARTS: [(usize, usize, &[u8]); 5] = [
+    (0, 14, b"The quick brow"),
+    (4, 20, b"quick brown fox jump"),
+    (20, 15, b"jumps over the "),
+    (30, 40, b" the lazy dog"),
+    (43, 16, b""),
+];
+
+#[test]
+fn parts_outlive_what_they_are_parts_of(rt: HostRuntime) -> Result<(), AllocError> {
+    let alloc = rt.alloc();
+    let mut parts = Vec::new(alloc);
+    let whole = b"The quick brown fox jumps over the lazy dog".to_vec(alloc)?;
+    let shared = SharedBytes::from_vec(alloc, whole)?;
+    for (start, count, _) in &PARTS {
+        let part = Text::part_of(alloc, &shared, *start, *count)?;
+        parts.push(part.copy(alloc)?)?;
+    }
+    drop(shared);
+    assert!(rt; parts.len() == PARTS.len());
+    for (part, (_, _, bytes)) in parts.iter().zip(&PARTS) {
+        assert!(rt; part.as_bytes() == *bytes);
+    }
     Ok(())
 }

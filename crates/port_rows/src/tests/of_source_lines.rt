@@ -82,8 +82,15 @@ static PLACES: [(Place, &[u8]); 7] = [
 ];
 
 // Whether the line of a place has this text, also where it is sought without an index.
-fn has_text(lines: &[Line], index: &SourceLines<'_>, place: Place, text: &[u8]) -> bool {
-    index.text_at(place) == text && text_at(lines, place) == text
+fn has_text(
+    alloc: Global,
+    lines: &[Line],
+    index: &SourceLines<'_>,
+    place: Place,
+    text: &[u8],
+) -> Result<bool, AllocError> {
+    let found = index.text_at(alloc, place)?;
+    Ok(found.as_bytes() == text && text_at(lines, place) == text)
 }
 
 #[test]
@@ -91,7 +98,7 @@ fn first_line_of_a_place(rt: HostRuntime) -> Result<(), AllocError> {
     let lines = lines(rt.alloc())?;
     let index = SourceLines::new(rt.alloc(), lines.as_slice())?;
     for (place, text) in &PLACES {
-        assert!(rt; has_text(lines.as_slice(), &index, *place, text));
+        assert!(rt; has_text(rt.alloc(), lines.as_slice(), &index, *place, text)?);
     }
     Ok(())
 }
@@ -134,7 +141,7 @@ fn lines_in_order(rt: HostRuntime) -> Result<(), AllocError> {
             line: *line,
             column: 1,
         };
-        assert!(rt; has_text(lines.as_slice(), &index, place, text));
+        assert!(rt; has_text(rt.alloc(), lines.as_slice(), &index, place, text)?);
     }
     Ok(())
 }

@@ -5,22 +5,22 @@ use Rattle.asl_preprocess.specs.Preprocess as spec
 use Rattle.asl_preprocess.proofs.Mains.{main_causes, lacks_stop, lacks_place, lacks_causes}
 use Rattle.asl_preprocess.proofs.main_file.preprocess.Goals as goal
 
-pub returns-in-Ok-clause-given : goal.returns-in-Ok-clause-given
-returns-in-Ok-clause-given g c =
+pub returns-in-Ok-from_vec-clause-given : goal.returns-in-Ok-from_vec-clause-given
+returns-in-Ok-from_vec-clause-given g c =
     IfOk-weaker c.read_main.result _ _ (λ it h told k.
     ap (spec.of_found (spec.setting_of told c.args.dirs.now c.args.enabled) c.args.name.now c.args.defines.now) (c.in-Ok.ensures.whole told k)
-    ∙ ap (spec.of_main (spec.setting_of told c.args.dirs.now c.args.enabled) c.args.name.now c.args.defines.now) (sym c.deref.ensures.value)
+    ∙ ap (spec.of_main (spec.setting_of told c.args.dirs.now c.args.enabled) c.args.name.now c.args.defines.now) (sym c.in-Ok-from_vec.ensures)
     ∙ h told (c.in-Ok.ensures.contents ∙ k)) c.read_main.ensures.given
 
-pub returns-in-Ok-clause-stopped : goal.returns-in-Ok-clause-stopped
-returns-in-Ok-clause-stopped g c =
+pub returns-in-Ok-from_vec-clause-stopped : goal.returns-in-Ok-from_vec-clause-stopped
+returns-in-Ok-from_vec-clause-stopped g c =
     IfErr-weaker c.read_main.result _ _ (λ stop h told k.
     subst (IsStop stop) (sym (ap (spec.of_found (spec.setting_of told c.args.dirs.now c.args.enabled) c.args.name.now c.args.defines.now) (c.in-Ok.ensures.whole told k)
-    ∙ ap (spec.of_main (spec.setting_of told c.args.dirs.now c.args.enabled) c.args.name.now c.args.defines.now) (sym c.deref.ensures.value)))
+    ∙ ap (spec.of_main (spec.setting_of told c.args.dirs.now c.args.enabled) c.args.name.now c.args.defines.now) (sym c.in-Ok-from_vec.ensures)))
     (h told (c.in-Ok.ensures.contents ∙ k))) c.read_main.ensures.stopped
 
-pub returns-in-Ok-clause-cause : goal.returns-in-Ok-clause-cause
-returns-in-Ok-clause-cause g c =
+pub returns-in-Ok-from_vec-clause-cause : goal.returns-in-Ok-from_vec-clause-cause
+returns-in-Ok-from_vec-clause-cause g c =
     IfErr-weaker c.read_main.result _ _ (λ stop h. main_causes stop _ _ _ _ _ c.in-Ok.ensures.faults h) c.read_main.ensures.fault
 
 pub returns-in-Err-clause-stopped : goal.returns-in-Err-clause-stopped

@@ -29,13 +29,12 @@ include-returns-in-Ok-clause-reached g t c state shows sound known =
     reaches_by c.read_file.result (g.F.Files.contents c.args.files.now) (g.F.Files.contents c.seek.new.files) c.read_file.new.work.files
     (λ later. Stands c.read_file.new.work later (length state.files)) (λ later. Stands c.read_file.new.work later (length (with_file name state.files)))
     (λ told. included (reading_at (setting_by told c.args.setting.now) c.args.own.now.levels) (setting_by told c.args.setting.now) c.args.own.now.name.now (asked_for c.args.wanted.now) c.args.wanted.now.place state)
-    (λ told. of_file (setting_by told c.args.setting.now) (c.args.own.now.levels - 1) new c.as_bytes-in-Ok.result.now c.deref.result.now)
+    (λ told. of_file (setting_by told c.args.setting.now) (c.args.own.now.levels - 1) new c.as_bytes-in-Ok.result.now c.in-Ok.found.bytes)
     c.in-Ok.ensures.contents
     (λ later stands. record { shows = stands.shows; sound = stands.sound; grows = omega (arith, stands.grows, more_files name state.files) })
     (λ told k.
-    seek_reads (g.F.Files.contents c.args.files.now) c.args.setting.now.directories.now c.args.setting.now.enabled c.args.own.now.levels c.args.own.now.name.now state c.args.wanted.now some name c.in-Ok.found.bytes.items told (c.in-Ok.ensures.found told k)
-    ∙ ap (λ (n : List ℕ). of_file (setting_by told c.args.setting.now) (c.args.own.now.levels - 1) new n c.in-Ok.found.bytes.items) (sym c.as_bytes-in-Ok.ensures)
-    ∙ ap (λ (b : List ℕ). of_file (setting_by told c.args.setting.now) (c.args.own.now.levels - 1) new c.as_bytes-in-Ok.result.now b) (sym c.deref.ensures.value))
+    seek_reads (g.F.Files.contents c.args.files.now) c.args.setting.now.directories.now c.args.setting.now.enabled c.args.own.now.levels c.args.own.now.name.now state c.args.wanted.now some name c.in-Ok.found.bytes told (c.in-Ok.ensures.found told k)
+    ∙ ap (λ (n : List ℕ). of_file (setting_by told c.args.setting.now) (c.args.own.now.levels - 1) new n c.in-Ok.found.bytes) (sym c.as_bytes-in-Ok.ensures))
     (c.read_file.ensures.reached new shows' sound' within number)
 
 pub pass_row-returns-in-Ok-Some-clause-reached : goal.pass_row-returns-in-Ok-Some-clause-reached

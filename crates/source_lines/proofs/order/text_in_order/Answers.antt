@@ -7,7 +7,7 @@ use Rattle.source_lines.proofs.order.text_in_order.Goals.{else-index-lines-via-t
 pub returns-then-is_at : goal.returns-then-is_at
 returns-then-is_at c =
     let there = ap (λ line. at_place line c.args.place) (sym c.index-lines-index.is) ∙ (sym c.is_at.ensures ∙ c.if-is_at.true) in
-    c.as_bytes.ensures ∙ sym (one_there c.args.lines.now c.args.place c.index_of-index.result c.index-lines-index-then-is_at.result c.index-lines-index.result c.if-index-lines.true
+    sym (one_there c.args.lines.now c.args.place c.index_of-index.result c.index-lines-index-then-is_at.result c.index-lines-index.result c.if-index-lines.true
     (λ k below same. omega (arith, c.index_of-index.ensures k (omega arith) same)) there)
 
 pub returns-else-index-lines : goal.returns-else-index-lines
