@@ -12,7 +12,7 @@ use Rattle.asl_parser.specs.Grammar.{Phrase, expression, arguments, body, before
 use Rattle.asl_parser.specs.Grammar.{none_given, last_given, last_left_out, none_before, one_before, one_left_out, an_argument, a_list_argument, empty_list, a_list, no_members, more_members, a_word, an_inner_list, no_body, a_body, an_empty_row, a_comma, a_semicolon, one_more}
 use Rattle.asl_parser.specs.Grammar as g
 use Rattle.asl_parser.specs.Written.{written, writtens, written_in}
-use Rattle.asl_parser.proofs.Views.{written_number, written_text, written_item, written_apply, written_list, written_comma, written_semicolon, written_empty}
+use Rattle.asl_parser.specs.Views.{written_number, written_text, written_item, written_apply, written_list, written_comma, written_semicolon, written_empty}
 use Rattle.asl_parser.specs.Within.{IsWithin, AreWithin, IsGroupWithin}
 
 module _ (files : ℕ) where

@@ -11,7 +11,6 @@ pub mod Merged
 pub mod Stacks
 pub mod Settled
 pub mod Told
-pub mod Views
 pub mod Homes
 pub mod Skipped
 pub mod Onward

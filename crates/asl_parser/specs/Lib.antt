@@ -19,3 +19,8 @@ pub mod Pairs
 pub mod Reading
 pub mod Calls
 pub mod Operating
+pub mod Sizes
+pub mod Views
+pub mod TextBytes
+pub mod Nodes
+pub mod Falls

@@ -43,7 +43,7 @@ fn behind_argument(token: &Token) -> Arguments
 // Holds an argument that is an expression by itself, behind which a comma or the end of the arguments stands.
 #[inline(always)]
 fn hold_argument(
-    stack: &mut Stack,
+    stack: &mut Stack<'_>,
     number: u32,
     first: &Token,
     second: &Token,
@@ -66,7 +66,7 @@ fn hold_argument(
 // Holds the arguments from a place on, as far as they are expressions by themselves. Answers the place behind them.
 #[inline(always)]
 fn hold_arguments(
-    stack: &mut Stack,
+    stack: &mut Stack<'_>,
     tokens: &[Token],
     from: usize,
 ) -> Result<(usize, Arguments), AllocError>
@@ -90,7 +90,7 @@ fn hold_arguments(
 }
 
 // What was read last, where arguments may come.
-fn stage_of(read: Arguments) -> Stage
+fn stage_of<'a>(read: Arguments) -> Stage<'a>
     ensures { result ≡ stage_by read }
 {
     match read {
@@ -102,9 +102,9 @@ fn stage_of(read: Arguments) -> Stage
 /// Reads a call from its first argument on: arguments that are expressions by themselves are held, and a frame is opened only where
 /// others come behind them. Answers the place behind what was read.
 #[inline(never)]
-pub fn call(
-    stack: &mut Stack,
-    stage: &mut Stage,
+pub fn call<'a>(
+    stack: &mut Stack<'a>,
+    stage: &mut Stage<'a>,
     number: u32,
     first: &Token,
     tokens: &[Token],

@@ -15,7 +15,7 @@ use crate::stage::Stage;
 use crate::subtree::Subtrees;
 
 // The end of the source, whose items were read.
-fn finish_source(stack: &mut Stack) -> Result<Subtrees, Refusal>
+fn finish_source<'a>(stack: &mut Stack<'a>) -> Result<Subtrees<'a>, Refusal>
     requires { stack.old.0 ≡ no_subtrees }
     ensures { Finishes result (spec.finish states.Sequence stack.old.1) }
 {
@@ -32,7 +32,7 @@ fn finish_source(stack: &mut Stack) -> Result<Subtrees, Refusal>
 }
 
 #[tactic(auto, unfolding(crate::specs::Machine::finish_whole))]
-fn finish_whole(stack: &mut Stack) -> Result<Subtrees, Refusal>
+fn finish_whole<'a>(stack: &mut Stack<'a>) -> Result<Subtrees<'a>, Refusal>
     requires { IsOne stack.old.0 }
     ensures { Finishes result (spec.finish_whole (tree_of stack.old.0) stack.old.1) }
 {
@@ -46,9 +46,9 @@ fn finish_whole(stack: &mut Stack) -> Result<Subtrees, Refusal>
 }
 
 /// What the end of the tokens does.
-pub fn finish(stack: &mut Stack, stage: Stage) -> Result<Subtrees, Refusal>
+pub fn finish<'a>(stack: &mut Stack<'a>, stage: Stage<'a>) -> Result<Subtrees<'a>, Refusal>
     requires { Holds stage stack.old.0 }
-    ensures { Finishes result (spec.finish (state_of stage stack.old.0) stack.old.1) }
+    ensures { Finishes result (spec.finish (state_of stage.entry stack.old.0) stack.old.1) }
 {
     match stage {
         Stage::Sequence => finish_source(stack),

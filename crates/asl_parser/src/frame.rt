@@ -5,7 +5,7 @@ ghost use Rattle.asl_parser.specs.declared.frame.Refusal.TheVariants.{Memory};
 use crate::mark::Spot;
 use crate::raw::Infix;
 use crate::subtree::{Subtree, Subtrees};
-use iasl_ports::list::Text;
+use crate::text::SyntaxText;
 use std::alloc::AllocError;
 
 /// The level of assignments, the loosest operators.
@@ -14,23 +14,23 @@ pub const LOOSEST: u8 = 13;
 /// What stands open around the place where the reader is, and what was read of it. Only definitions speak of it: the code
 /// keeps what stands open in a `Stack`.
 #[derive(Drop)]
-pub enum Frame {
+pub enum Frame<'a> {
     /// The source, and its items so far.
     Unit {
-        done: Subtrees,
+        done: Subtrees<'a>,
     },
     /// An item's arguments, those before the one that comes.
     Args {
         spot: Spot,
-        word: Text,
-        done: Subtrees,
+        word: SyntaxText<'a>,
+        done: Subtrees<'a>,
     },
     /// An item's body.
     Body {
         spot: Spot,
-        word: Text,
-        args: Option<Subtrees>,
-        done: Subtrees,
+        word: SyntaxText<'a>,
+        args: Option<Subtrees<'a>>,
+        done: Subtrees<'a>,
     },
     /// An expression in parentheses.
     Bracket,
@@ -45,19 +45,19 @@ pub enum Frame {
         room: u8,
         spot: Spot,
         op: Infix,
-        operands: Subtrees,
+        operands: Subtrees<'a>,
     },
     /// A list as an argument.
     List {
         spot: Spot,
-        done: Subtrees,
+        done: Subtrees<'a>,
     },
 }
 
 /// What was read last, and so what may come. Only definitions speak of it: in the code it is a `Stage`, and a `Stack` holds
 /// the trees.
 #[derive(Drop)]
-pub enum ParserState {
+pub enum ParserState<'a> {
     /// An expression has to begin.
     Operand,
     /// Arguments have begun.
@@ -73,13 +73,13 @@ pub enum ParserState {
     /// A word or path, which may have arguments or a body.
     Word {
         spot: Spot,
-        word: Text,
+        word: SyntaxText<'a>,
     },
     /// A word or path with arguments, which may have a body.
     Called {
         spot: Spot,
-        word: Text,
-        args: Subtrees,
+        word: SyntaxText<'a>,
+        args: Subtrees<'a>,
     },
     /// An expression that takes neither arguments nor a body.
     Whole {

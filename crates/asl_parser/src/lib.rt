@@ -7,6 +7,7 @@ mod frame;
 mod levels;
 mod machine;
 mod mark;
+mod nodes;
 mod open;
 mod operators;
 mod pairs;
@@ -18,7 +19,10 @@ mod sign;
 mod stack;
 mod stage;
 mod subtree;
+mod text;
 
+pub use nodes::{NodeForm, SyntaxNode, SyntaxNodes};
 pub use place::place_at;
 pub use raw::{Infix, Raw, RawUnit, Raws};
 pub use reader::{Syntax, parse};
+pub use text::SyntaxText;

@@ -17,19 +17,20 @@ ghost use Rattle.asl_parser.specs.declared.stage.Stage.TheVariants as stages;
 
 use crate::frame::{LOOSEST, Refusal};
 use crate::mark::{Look, Spot};
+use crate::nodes::{NodeForm, SyntaxNode};
 use crate::open::FrameKind;
-use crate::raw::{Infix, Raw};
+use crate::raw::Infix;
 use crate::sign::{Sign, Strength, strength_of};
 use crate::stack::Stack;
 use crate::stage::Stage;
 use crate::subtree::BoxedSubtrees;
+use crate::text::SyntaxText;
 use asl_lexer::token::Token;
-use iasl_ports::list::Text;
 use std::alloc::AllocError;
 use std::mem::replace;
 
 // Whether the innermost frame is an operator that binds at least as tightly.
-fn binds(stack: &Stack, pull: u8) -> bool
+fn binds(stack: &Stack<'_>, pull: u8) -> bool
     ensures { result ≡ binds_by pull stack.now.1 }
 {
     match stack.kind() {
@@ -40,7 +41,7 @@ fn binds(stack: &Stack, pull: u8) -> bool
 
 // Ends the innermost frame, an operator whose last operand is held, which is then over its operands.
 #[inline(never)]
-fn apply(stack: &mut Stack) -> Result<(), AllocError>
+fn apply(stack: &mut Stack<'_>) -> Result<(), AllocError>
     requires one { IsOne stack.old.0 }
     ensures stack { OnOk result ((tree_of stack.new.0, stack.new.1) ≡ applied_once (tree_of stack.old.0) stack.old.1) }
     ensures one { OnOk result (IsOne stack.new.0) }
@@ -56,7 +57,7 @@ fn apply(stack: &mut Stack) -> Result<(), AllocError>
 
 /// Applies the operators that bind at least as tightly to the tree that is held.
 #[inline(always)]
-pub fn settle(stack: &mut Stack, pull: u8) -> Result<(), AllocError>
+pub fn settle(stack: &mut Stack<'_>, pull: u8) -> Result<(), AllocError>
     requires one { IsOne stack.old.0 }
     ensures stack { OnOk result ((tree_of stack.new.0, stack.new.1) ≡ spec.settle pull (tree_of stack.old.0) stack.old.1) }
     ensures one { OnOk result (IsOne stack.new.0) }
@@ -68,7 +69,7 @@ pub fn settle(stack: &mut Stack, pull: u8) -> Result<(), AllocError>
 }
 
 // Puts an operator behind the tree that is held.
-fn post(stack: &mut Stack, spot: Spot, op: Infix) -> Result<(), AllocError>
+fn post(stack: &mut Stack<'_>, spot: Spot, op: Infix) -> Result<(), AllocError>
     requires one { IsOne stack.old.0 }
     ensures tree { OnOk result (tree_of stack.new.0 ≡ posted spot op (tree_of stack.old.0)) }
     ensures one { OnOk result (IsOne stack.new.0) }
@@ -80,7 +81,12 @@ fn post(stack: &mut Stack, spot: Spot, op: Infix) -> Result<(), AllocError>
 }
 
 // A word or path, of which the machine keeps the text.
-fn word(stack: &Stack, stage: &mut Stage, spot: Spot, token: &Token) -> Result<(), Refusal>
+fn word<'a>(
+    stack: &Stack<'a>,
+    stage: &mut Stage<'a>,
+    spot: Spot,
+    token: &Token,
+) -> Result<(), Refusal>
     requires { stack.now.0 ≡ no_subtrees }
     ensures { StepsTo result stage.new stack.now (Some (states.Word spot token.now.text, stack.now.1)) }
 {
@@ -89,7 +95,12 @@ fn word(stack: &Stack, stage: &mut Stage, spot: Spot, token: &Token) -> Result<(
     Ok(())
 }
 
-fn number(stack: &mut Stack, stage: &mut Stage, spot: Spot, token: &Token) -> Result<(), Refusal>
+fn number<'a>(
+    stack: &mut Stack<'a>,
+    stage: &mut Stage<'a>,
+    spot: Spot,
+    token: &Token,
+) -> Result<(), Refusal>
     requires { stack.old.0 ≡ no_subtrees }
     ensures { StepsTo result stage.new stack.new (spec.begin_by spot (lexemes.Number token.now.number) stack.old.1) }
 {
@@ -98,12 +109,22 @@ fn number(stack: &mut Stack, stage: &mut Stage, spot: Spot, token: &Token) -> Re
     }
     let place = spot.place;
     let value = token.number;
-    stack.hold(spot.token, Raw::Number { place, value })?;
+    stack.hold(
+        spot.token,
+        SyntaxNode {
+            form: NodeForm::Number { place, value },
+        },
+    )?;
     *stage = Stage::Whole;
     Ok(())
 }
 
-fn text(stack: &mut Stack, stage: &mut Stage, spot: Spot, token: &Token) -> Result<(), Refusal>
+fn text<'a>(
+    stack: &mut Stack<'a>,
+    stage: &mut Stage<'a>,
+    spot: Spot,
+    token: &Token,
+) -> Result<(), Refusal>
     requires { stack.old.0 ≡ no_subtrees }
     ensures { StepsTo result stage.new stack.new (spec.begin_by spot (lexemes.Text token.now.text) stack.old.1) }
 {
@@ -112,15 +133,20 @@ fn text(stack: &mut Stack, stage: &mut Stage, spot: Spot, token: &Token) -> Resu
     }
     let place = spot.place;
     let text = stack.copy(&token.text)?;
-    stack.hold(spot.token, Raw::Text { place, text })?;
+    stack.hold(
+        spot.token,
+        SyntaxNode {
+            form: NodeForm::Text { place, text },
+        },
+    )?;
     *stage = Stage::Whole;
     Ok(())
 }
 
 #[tactic(auto, unfolding(crate::specs::Machine::begin))]
-fn begin(
-    stack: &mut Stack,
-    stage: &mut Stage,
+fn begin<'a>(
+    stack: &mut Stack<'a>,
+    stage: &mut Stage<'a>,
     spot: Spot,
     look: Look,
     token: &Token,
@@ -139,7 +165,12 @@ fn begin(
 }
 
 #[inline(never)]
-fn begin_sign(stack: &mut Stack, stage: &mut Stage, spot: Spot, sign: Sign) -> Result<(), Refusal>
+fn begin_sign<'a>(
+    stack: &mut Stack<'a>,
+    stage: &mut Stage<'a>,
+    spot: Spot,
+    sign: Sign,
+) -> Result<(), Refusal>
     requires { stack.old.0 ≡ no_subtrees }
     ensures { StepsTo result stage.new stack.new (spec.begin_sign spot sign stack.old.1) }
 {
@@ -171,14 +202,14 @@ fn begin_sign(stack: &mut Stack, stage: &mut Stage, spot: Spot, sign: Sign) -> R
 
 // A comma or semicolon of a body.
 #[inline(never)]
-fn separated(
-    stack: &mut Stack,
-    stage: &mut Stage,
+fn separated<'a>(
+    stack: &mut Stack<'a>,
+    stage: &mut Stage<'a>,
     spot: Spot,
-    separator: Raw,
+    separator: SyntaxNode<'a>,
 ) -> Result<(), Refusal>
     requires { stack.old.0 ≡ no_subtrees }
-    ensures { StepsTo result stage.new stack.new (spec.separated (leaf spot.token separator) stack.old.1) }
+    ensures { StepsTo result stage.new stack.new (spec.separated (leaf spot.token separator.entry) stack.old.1) }
 {
     match stack.kind() {
         FrameKind::Body { .. } => {
@@ -193,7 +224,7 @@ fn separated(
 
 // The end of a body.
 #[inline(never)]
-fn close_body(stack: &mut Stack, stage: &mut Stage) -> Result<(), Refusal>
+fn close_body<'a>(stack: &mut Stack<'a>, stage: &mut Stage<'a>) -> Result<(), Refusal>
     requires { stack.old.0 ≡ no_subtrees }
     ensures { StepsTo result stage.new stack.new (spec.close_body stack.old.1) }
 {
@@ -210,9 +241,9 @@ fn close_body(stack: &mut Stack, stage: &mut Stage) -> Result<(), Refusal>
 }
 
 #[tactic(auto, unfolding(crate::specs::Machine::sequence, crate::specs::Machine::begin))]
-fn sequence(
-    stack: &mut Stack,
-    stage: &mut Stage,
+fn sequence<'a>(
+    stack: &mut Stack<'a>,
+    stage: &mut Stage<'a>,
     spot: Spot,
     look: Look,
     token: &Token,
@@ -221,8 +252,22 @@ fn sequence(
     ensures { StepsTo result stage.new stack.new (spec.sequence spot (lexeme_of look token.now) stack.old.1) }
 {
     match look {
-        Look::Sign(Sign::Comma) => separated(stack, stage, spot, Raw::Comma),
-        Look::Sign(Sign::Semicolon) => separated(stack, stage, spot, Raw::Semicolon),
+        Look::Sign(Sign::Comma) => separated(
+            stack,
+            stage,
+            spot,
+            SyntaxNode {
+                form: NodeForm::Comma,
+            },
+        ),
+        Look::Sign(Sign::Semicolon) => separated(
+            stack,
+            stage,
+            spot,
+            SyntaxNode {
+                form: NodeForm::Semicolon,
+            },
+        ),
         Look::Sign(Sign::RightBrace) => close_body(stack, stage),
         _ => begin(stack, stage, spot, look, token),
     }
@@ -230,7 +275,7 @@ fn sequence(
 
 // The end of arguments, all of which are held or were read.
 #[inline(never)]
-fn close_args(stack: &mut Stack, stage: &mut Stage) -> Result<(), Refusal>
+fn close_args<'a>(stack: &mut Stack<'a>, stage: &mut Stage<'a>) -> Result<(), Refusal>
     requires one { IsOne stack.old.0 }
     requires args { is_args (kind_of stack.old.1) ≡ true }
     ensures { StepsTo result stage.new stack.new (args_closed (tree_of stack.old.0) stack.old.1) }
@@ -244,7 +289,12 @@ fn close_args(stack: &mut Stack, stage: &mut Stage) -> Result<(), Refusal>
 
 // After a member of arguments, which is held.
 #[tactic(auto, unfolding(crate::specs::Machine::listed))]
-fn argued(stack: &mut Stack, stage: &mut Stage, look: Look, token: &Token) -> Result<(), Refusal>
+fn argued<'a>(
+    stack: &mut Stack<'a>,
+    stage: &mut Stage<'a>,
+    look: Look,
+    token: &Token,
+) -> Result<(), Refusal>
     requires one { IsOne stack.old.0 }
     requires args { is_args (kind_of stack.old.1) ≡ true }
     ensures { StepsTo result stage.new stack.new (spec.listed (tree_of stack.old.0) (lexeme_of look token.now) stack.old.1) }
@@ -262,7 +312,7 @@ fn argued(stack: &mut Stack, stage: &mut Stage, look: Look, token: &Token) -> Re
 
 // The end of a list, all of which is held.
 #[inline(never)]
-fn close_list(stack: &mut Stack, stage: &mut Stage) -> Result<(), Refusal>
+fn close_list<'a>(stack: &mut Stack<'a>, stage: &mut Stage<'a>) -> Result<(), Refusal>
     requires one { IsOne stack.old.0 }
     requires list { is_list (kind_of stack.old.1) ≡ true }
     ensures { StepsTo result stage.new stack.new (list_closed (tree_of stack.old.0) stack.old.1) }
@@ -277,7 +327,12 @@ fn close_list(stack: &mut Stack, stage: &mut Stage) -> Result<(), Refusal>
 
 // After a member of a list, which is held.
 #[tactic(auto, unfolding(crate::specs::Machine::listed))]
-fn elemented(stack: &mut Stack, stage: &mut Stage, look: Look, token: &Token) -> Result<(), Refusal>
+fn elemented<'a>(
+    stack: &mut Stack<'a>,
+    stage: &mut Stage<'a>,
+    look: Look,
+    token: &Token,
+) -> Result<(), Refusal>
     requires one { IsOne stack.old.0 }
     requires list { is_list (kind_of stack.old.1) ≡ true }
     ensures { StepsTo result stage.new stack.new (spec.listed (tree_of stack.old.0) (lexeme_of look token.now) stack.old.1) }
@@ -294,7 +349,12 @@ fn elemented(stack: &mut Stack, stage: &mut Stage, look: Look, token: &Token) ->
 }
 
 #[tactic(auto, unfolding(crate::specs::Machine::listed))]
-fn listed(stack: &mut Stack, stage: &mut Stage, look: Look, token: &Token) -> Result<(), Refusal>
+fn listed<'a>(
+    stack: &mut Stack<'a>,
+    stage: &mut Stage<'a>,
+    look: Look,
+    token: &Token,
+) -> Result<(), Refusal>
     requires one { IsOne stack.old.0 }
     ensures { StepsTo result stage.new stack.new (spec.listed (tree_of stack.old.0) (lexeme_of look token.now) stack.old.1) }
 {
@@ -306,9 +366,9 @@ fn listed(stack: &mut Stack, stage: &mut Stage, look: Look, token: &Token) -> Re
 }
 
 // After an expression of a body, or an item of the source, which is held.
-fn ended(
-    stack: &mut Stack,
-    stage: &mut Stage,
+fn ended<'a>(
+    stack: &mut Stack<'a>,
+    stage: &mut Stage<'a>,
     spot: Spot,
     look: Look,
     token: &Token,
@@ -323,7 +383,7 @@ fn ended(
 
 // The end of an index, which is held.
 #[inline(never)]
-fn close_index(stack: &mut Stack, stage: &mut Stage) -> Result<(), Refusal>
+fn close_index<'a>(stack: &mut Stack<'a>, stage: &mut Stage<'a>) -> Result<(), Refusal>
     requires one { IsOne stack.old.0 }
     requires index { is_index (kind_of stack.old.1) ≡ true }
     ensures { StepsTo result stage.new stack.new (index_closed (tree_of stack.old.0) stack.old.1) }
@@ -340,9 +400,9 @@ fn close_index(stack: &mut Stack, stage: &mut Stage) -> Result<(), Refusal>
 }
 
 // After an expression, which is held, to which no operator is applied any more.
-fn enclosed(
-    stack: &mut Stack,
-    stage: &mut Stage,
+fn enclosed<'a>(
+    stack: &mut Stack<'a>,
+    stage: &mut Stage<'a>,
     spot: Spot,
     look: Look,
     token: &Token,
@@ -372,7 +432,7 @@ fn enclosed(
 
 // An index of the expression that is held.
 #[inline(never)]
-fn open_index(stack: &mut Stack, stage: &mut Stage, spot: Spot) -> Result<(), Refusal>
+fn open_index<'a>(stack: &mut Stack<'a>, stage: &mut Stage<'a>, spot: Spot) -> Result<(), Refusal>
     requires one { IsOne stack.old.0 }
     ensures { StepsTo result stage.new stack.new
         (spec.after_lexeme spot (lexemes.Sign signs.LeftBracket) (tree_of stack.old.0) stack.old.1) }
@@ -387,7 +447,12 @@ fn open_index(stack: &mut Stack, stage: &mut Stage, spot: Spot) -> Result<(), Re
 
 // An operator behind the expression that is held.
 #[inline(never)]
-fn postfix(stack: &mut Stack, stage: &mut Stage, spot: Spot, op: Infix) -> Result<(), Refusal>
+fn postfix<'a>(
+    stack: &mut Stack<'a>,
+    stage: &mut Stage<'a>,
+    spot: Spot,
+    op: Infix,
+) -> Result<(), Refusal>
     requires one { IsOne stack.old.0 }
     ensures { StepsTo result stage.new stack.new
         (spec.after_lexeme spot (lexemes.Sign (signs.Postfix op)) (tree_of stack.old.0) stack.old.1) }
@@ -402,9 +467,9 @@ fn postfix(stack: &mut Stack, stage: &mut Stage, spot: Spot, op: Infix) -> Resul
 
 // After an expression, which is held.
 #[tactic(auto, unfolding(crate::specs::Machine::after))]
-fn after(
-    stack: &mut Stack,
-    stage: &mut Stage,
+fn after<'a>(
+    stack: &mut Stack<'a>,
+    stage: &mut Stage<'a>,
     spot: Spot,
     look: Look,
     token: &Token,
@@ -428,9 +493,9 @@ fn after(
 }
 
 #[inline(never)]
-fn operator(
-    stack: &mut Stack,
-    stage: &mut Stage,
+fn operator<'a>(
+    stack: &mut Stack<'a>,
+    stage: &mut Stage<'a>,
     spot: Spot,
     op: Infix,
     strength: Strength,
@@ -454,14 +519,14 @@ fn operator(
 }
 
 // The arguments of a word.
-fn open_arguments(
-    stack: &mut Stack,
-    stage: &mut Stage,
+fn open_arguments<'a>(
+    stack: &mut Stack<'a>,
+    stage: &mut Stage<'a>,
     spot: Spot,
-    word: Text,
+    word: SyntaxText<'a>,
 ) -> Result<(), Refusal>
     requires { stack.old.0 ≡ no_subtrees }
-    ensures { StepsTo result stage.new stack.new (Some (states.FirstArgument, frames.Args spot word no_subtrees ∷ stack.old.1)) }
+    ensures { StepsTo result stage.new stack.new (Some (states.FirstArgument, frames.Args spot word.entry no_subtrees ∷ stack.old.1)) }
 {
     stack.open(FrameKind::Args { spot, word })?;
     *stage = Stage::FirstArgument;
@@ -470,15 +535,16 @@ fn open_arguments(
 
 // The body of a word.
 #[inline(never)]
-fn open_body(
-    stack: &mut Stack,
-    stage: &mut Stage,
+fn open_body<'a>(
+    stack: &mut Stack<'a>,
+    stage: &mut Stage<'a>,
     spot: Spot,
-    word: Text,
-    args: Option<BoxedSubtrees>,
+    word: SyntaxText<'a>,
+    args: Option<BoxedSubtrees<'a>>,
 ) -> Result<(), Refusal>
     requires { stack.old.0 ≡ no_subtrees }
-    ensures { StepsTo result stage.new stack.new (Some (states.Sequence, frames.Body spot word args no_subtrees ∷ stack.old.1)) }
+    ensures { StepsTo result stage.new stack.new
+        (Some (states.Sequence, frames.Body spot word.entry args.entry no_subtrees ∷ stack.old.1)) }
 {
     stack.open(FrameKind::Body { spot, word, args })?;
     *stage = Stage::Sequence;
@@ -486,17 +552,17 @@ fn open_body(
 }
 
 #[tactic(auto, unfolding(crate::specs::Machine::word))]
-fn after_word(
-    stack: &mut Stack,
-    stage: &mut Stage,
+fn after_word<'a>(
+    stack: &mut Stack<'a>,
+    stage: &mut Stage<'a>,
     place: Spot,
-    word: Text,
+    word: SyntaxText<'a>,
     spot: Spot,
     look: Look,
     token: &Token,
 ) -> Result<(), Refusal>
     requires { stack.old.0 ≡ no_subtrees }
-    ensures { StepsTo result stage.new stack.new (spec.word spot (lexeme_of look token.now) place word stack.old.1) }
+    ensures { StepsTo result stage.new stack.new (spec.word spot (lexeme_of look token.now) place word.entry stack.old.1) }
 {
     match look {
         Look::Sign(Sign::LeftParen) => open_arguments(stack, stage, place, word),
@@ -510,16 +576,16 @@ fn after_word(
 
 #[inline(never)]
 #[tactic(auto, unfolding(crate::specs::Machine::called))]
-fn after_called(
-    stack: &mut Stack,
-    stage: &mut Stage,
+fn after_called<'a>(
+    stack: &mut Stack<'a>,
+    stage: &mut Stage<'a>,
     place: Spot,
-    word: Text,
+    word: SyntaxText<'a>,
     spot: Spot,
     look: Look,
     token: &Token,
 ) -> Result<(), Refusal>
-    ensures { StepsTo result stage.new stack.new (spec.called spot (lexeme_of look token.now) place word stack.old.0 stack.old.1) }
+    ensures { StepsTo result stage.new stack.new (spec.called spot (lexeme_of look token.now) place word.entry stack.old.0 stack.old.1) }
 {
     match look {
         Look::Sign(Sign::LeftBrace) => {
@@ -534,9 +600,9 @@ fn after_called(
 }
 
 // An argument that is left out.
-fn omitted(
-    stack: &mut Stack,
-    stage: &mut Stage,
+fn omitted<'a>(
+    stack: &mut Stack<'a>,
+    stage: &mut Stage<'a>,
     spot: Spot,
     look: Look,
     token: &Token,
@@ -546,7 +612,12 @@ fn omitted(
 {
     match stack.kind() {
         FrameKind::Args { .. } => {
-            stack.hold(spot.token, Raw::Empty)?;
+            stack.hold(
+                spot.token,
+                SyntaxNode {
+                    form: NodeForm::Empty,
+                },
+            )?;
             argued(stack, stage, look, token)
         }
         _ => Err(Refusal::Refused),
@@ -554,9 +625,9 @@ fn omitted(
 }
 
 #[tactic(auto, unfolding(crate::specs::Machine::argument, crate::specs::Machine::begin))]
-fn argument(
-    stack: &mut Stack,
-    stage: &mut Stage,
+fn argument<'a>(
+    stack: &mut Stack<'a>,
+    stage: &mut Stage<'a>,
     spot: Spot,
     look: Look,
     token: &Token,
@@ -578,9 +649,9 @@ fn argument(
 
 #[inline(never)]
 #[tactic(auto, unfolding(crate::specs::Machine::first_argument, crate::specs::Machine::argument))]
-fn first_argument(
-    stack: &mut Stack,
-    stage: &mut Stage,
+fn first_argument<'a>(
+    stack: &mut Stack<'a>,
+    stage: &mut Stage<'a>,
     spot: Spot,
     look: Look,
     token: &Token,
@@ -603,9 +674,9 @@ fn first_argument(
 }
 
 #[tactic(auto, unfolding(crate::specs::Machine::element))]
-fn element(
-    stack: &mut Stack,
-    stage: &mut Stage,
+fn element<'a>(
+    stack: &mut Stack<'a>,
+    stage: &mut Stage<'a>,
     spot: Spot,
     look: Look,
     token: &Token,
@@ -631,9 +702,9 @@ fn element(
 
 #[inline(never)]
 #[tactic(auto, unfolding(crate::specs::Machine::first_element, crate::specs::Machine::element))]
-fn first_element(
-    stack: &mut Stack,
-    stage: &mut Stage,
+fn first_element<'a>(
+    stack: &mut Stack<'a>,
+    stage: &mut Stage<'a>,
     spot: Spot,
     look: Look,
     token: &Token,
@@ -658,9 +729,9 @@ fn first_element(
 
 /// What a token does to what was read last and to what is open.
 #[inline(never)]
-pub fn step(
-    stack: &mut Stack,
-    stage: &mut Stage,
+pub fn step<'a>(
+    stack: &mut Stack<'a>,
+    stage: &mut Stage<'a>,
     number: u32,
     look: Look,
     token: &Token,
@@ -699,9 +770,9 @@ pub fn step(
 }
 
 /// What the token behind a word or path does, where an expression may begin at that.
-pub fn word_on(
-    stack: &mut Stack,
-    stage: &mut Stage,
+pub fn word_on<'a>(
+    stack: &mut Stack<'a>,
+    stage: &mut Stage<'a>,
     number: u32,
     first: &Token,
     look: Look,
@@ -726,9 +797,9 @@ pub fn word_on(
 }
 
 /// Holds a word or path that begins an expression, and has neither arguments nor a body.
-pub fn hold_word(
-    stack: &mut Stack,
-    stage: &mut Stage,
+pub fn hold_word<'a>(
+    stack: &mut Stack<'a>,
+    stage: &mut Stage<'a>,
     number: u32,
     token: &Token,
 ) -> Result<(), AllocError>
@@ -749,7 +820,7 @@ pub fn hold_word(
 }
 
 // Ends the expression that is held, behind which a word or path comes: it is a member of a body, or an item of the source.
-fn end_tree(stack: &mut Stack) -> Result<(), Refusal>
+fn end_tree(stack: &mut Stack<'_>) -> Result<(), Refusal>
     requires one { IsOne stack.old.0 }
     ensures { BeginsNext result (states.Whole (tree_of stack.old.0), stack.old.1) stack.new }
 {
@@ -769,7 +840,7 @@ fn end_tree(stack: &mut Stack) -> Result<(), Refusal>
 
 /// Ends the expression that was read last, behind which a word or path comes.
 #[inline(never)]
-pub fn end_expression(stack: &mut Stack, stage: &mut Stage) -> Result<(), Refusal>
+pub fn end_expression<'a>(stack: &mut Stack<'a>, stage: &mut Stage<'a>) -> Result<(), Refusal>
     requires holds { Holds stage.old stack.old.0 }
     requires ends { ends stage.old ≡ true }
     ensures next { BeginsNext result (state_of stage.old stack.old.0, stack.old.1) stack.new }

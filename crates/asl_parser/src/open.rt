@@ -7,7 +7,7 @@ use crate::levels::Levels;
 use crate::mark::Spot;
 use crate::raw::Infix;
 use crate::subtree::BoxedSubtrees;
-use iasl_ports::list::Text;
+use crate::text::SyntaxText;
 use std::alloc::Global;
 
 /// Trees in order. Their nodes are those of the vector from a place on. Where one of them is too tall, none is kept.
@@ -35,18 +35,18 @@ impl FrameGroup {
 
 /// What stands open, but for the trees that were read of it.
 #[derive(Drop)]
-pub enum FrameKind {
+pub enum FrameKind<'a> {
     /// Nothing: the whole source was read.
     Nothing,
     Unit,
     Args {
         spot: Spot,
-        word: Text,
+        word: SyntaxText<'a>,
     },
     Body {
         spot: Spot,
-        word: Text,
-        args: Option<BoxedSubtrees>,
+        word: SyntaxText<'a>,
+        args: Option<BoxedSubtrees<'a>>,
     },
     Bracket,
     Index {
@@ -65,13 +65,13 @@ pub enum FrameKind {
 
 /// What stands open, and the trees that were read of it.
 #[derive(Drop)]
-pub struct OpenFrame {
-    pub kind: FrameKind,
+pub struct OpenFrame<'a> {
+    pub kind: FrameKind<'a>,
     pub group: FrameGroup,
 }
 
 /// How much it adds to what is open.
-pub fn weight(kind: &FrameKind) -> usize
+pub fn weight(kind: &FrameKind<'_>) -> usize
     ensures { result ≡ spec.weight kind.now }
 {
     match kind {
@@ -82,7 +82,7 @@ pub fn weight(kind: &FrameKind) -> usize
 }
 
 /// The level of the expressions that may stand next in it.
-pub fn room(kind: &FrameKind) -> u8
+pub fn room(kind: &FrameKind<'_>) -> u8
     ensures { result ≡ spec.room kind.now }
 {
     match kind {

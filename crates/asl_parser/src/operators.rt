@@ -40,7 +40,7 @@ fn applies(level: u8, next: &Token) -> bool
 
 // Holds an operator over what is held and a token that is an expression by itself.
 fn apply_plain(
-    stack: &mut Stack,
+    stack: &mut Stack<'_>,
     spot: Spot,
     op: Infix,
     number: u32,
@@ -62,7 +62,7 @@ fn apply_plain(
 /// is applied to it before the one that stands next. Answers whether they were read.
 #[inline(never)]
 pub fn operate(
-    stack: &mut Stack,
+    stack: &mut Stack<'_>,
     number: u32,
     op: Infix,
     sign: &Token,
@@ -97,7 +97,7 @@ pub fn operate(
 /// Reads an expression in parentheses that is an operator between two tokens, from this place on. Answers whether it was read.
 #[inline(never)]
 pub fn bracket(
-    stack: &mut Stack,
+    stack: &mut Stack<'_>,
     tokens: &[Token],
     at: usize,
     first: &Token,

@@ -12,15 +12,15 @@ ghost use Rattle.asl_parser.specs.declared.mark.Lexeme.TheVariants as lexemes;
 ghost use Rattle.asl_parser.specs.declared.sign.Sign.TheVariants as signs;
 
 use crate::mark::{Look, Spot};
+use crate::nodes::{NodeForm, SyntaxNode};
 use crate::open::FrameKind;
-use crate::raw::Raw;
 use crate::sign::Sign;
 use crate::stack::Stack;
 use crate::stage::Stage;
 use asl_lexer::token::{Token, TokenKind};
 use std::alloc::AllocError;
 
-fn add_word(stack: &mut Stack, number: u32, token: &Token) -> Result<(), AllocError>
+fn add_word(stack: &mut Stack<'_>, number: u32, token: &Token) -> Result<(), AllocError>
     requires none { stack.old.0 ≡ no_subtrees }
     requires lists { lists (kind_of stack.old.1) ≡ true }
     ensures { OnOk result (stack.new ≡ (no_subtrees, added (item (mark number token.now).spot token.now.text None None) stack.old.1)) }
@@ -35,7 +35,7 @@ fn add_word(stack: &mut Stack, number: u32, token: &Token) -> Result<(), AllocEr
 }
 
 // Adds the tree of a token that is an expression by itself to the innermost frame. Answers whether it is one.
-fn add_plain(stack: &mut Stack, number: u32, token: &Token) -> Result<bool, AllocError>
+fn add_plain(stack: &mut Stack<'_>, number: u32, token: &Token) -> Result<bool, AllocError>
     requires none { stack.old.0 ≡ no_subtrees }
     requires lists { lists (kind_of stack.old.1) ≡ true }
     ensures { IfOk result (λ is_plain. AddsNode is_plain (plain (mark number token.now)) stack.old stack.new) }
@@ -52,12 +52,22 @@ fn add_plain(stack: &mut Stack, number: u32, token: &Token) -> Result<bool, Allo
         }
         TokenKind::Number => {
             let value = token.number;
-            stack.append(number, Raw::Number { place, value })?;
+            stack.append(
+                number,
+                SyntaxNode {
+                    form: NodeForm::Number { place, value },
+                },
+            )?;
             Ok(true)
         }
         TokenKind::Text => {
             let text = stack.copy(&token.text)?;
-            stack.append(number, Raw::Text { place, text })?;
+            stack.append(
+                number,
+                SyntaxNode {
+                    form: NodeForm::Text { place, text },
+                },
+            )?;
             Ok(true)
         }
         TokenKind::Symbol => Ok(false),
@@ -66,9 +76,9 @@ fn add_plain(stack: &mut Stack, number: u32, token: &Token) -> Result<bool, Allo
 
 // An argument and the comma behind it.
 #[inline(never)]
-fn argument_goes(
-    stack: &mut Stack,
-    stage: &mut Stage,
+fn argument_goes<'a>(
+    stack: &mut Stack<'a>,
+    stage: &mut Stage<'a>,
     number: u32,
     first: &Token,
     second: &Token,
@@ -91,9 +101,9 @@ fn argument_goes(
 
 // The last argument and the end of the arguments.
 #[inline(never)]
-fn argument_ends(
-    stack: &mut Stack,
-    stage: &mut Stage,
+fn argument_ends<'a>(
+    stack: &mut Stack<'a>,
+    stage: &mut Stage<'a>,
     number: u32,
     first: &Token,
     second: &Token,
@@ -120,7 +130,7 @@ fn argument_ends(
 // An expression of a body and the comma behind it.
 #[inline(never)]
 fn member_goes(
-    stack: &mut Stack,
+    stack: &mut Stack<'_>,
     number: u32,
     first: &Token,
     second: &Token,
@@ -134,15 +144,20 @@ fn member_goes(
     ensures holds { OnOk result (stack.new.0 ≡ no_subtrees) }
 {
     if add_plain(stack, number, first)? {
-        stack.append(number + 1, Raw::Comma)?;
+        stack.append(
+            number + 1,
+            SyntaxNode {
+                form: NodeForm::Comma,
+            },
+        )?;
         return Ok(true);
     }
     Ok(false)
 }
 
-fn arguments(
-    stack: &mut Stack,
-    stage: &mut Stage,
+fn arguments<'a>(
+    stack: &mut Stack<'a>,
+    stage: &mut Stage<'a>,
     number: u32,
     first: &Token,
     look: Look,
@@ -168,7 +183,7 @@ fn arguments(
 }
 
 fn body(
-    stack: &mut Stack,
+    stack: &mut Stack<'_>,
     number: u32,
     first: &Token,
     look: Look,
@@ -193,9 +208,9 @@ fn body(
 
 /// Reads a token, if it is an expression by itself, and the one behind it, where that is a comma or the end of arguments.
 /// Answers whether they were read: other tokens are to be read one by one.
-pub fn skip_pair(
-    stack: &mut Stack,
-    stage: &mut Stage,
+pub fn skip_pair<'a>(
+    stack: &mut Stack<'a>,
+    stage: &mut Stage<'a>,
     number: u32,
     first: &Token,
     look: Look,

@@ -5,12 +5,12 @@ ghost use Rattle.asl_parser.specs.Marks.{mark};
 ghost use Rattle.asl_parser.specs.Pairs.{plain, HoldsNode};
 
 use crate::mark::Spot;
-use crate::raw::Raw;
+use crate::nodes::{NodeForm, SyntaxNode};
 use crate::stack::Stack;
 use asl_lexer::token::{Token, TokenKind};
 use std::alloc::AllocError;
 
-fn hold_word(stack: &mut Stack, number: u32, token: &Token) -> Result<(), AllocError>
+fn hold_word(stack: &mut Stack<'_>, number: u32, token: &Token) -> Result<(), AllocError>
     ensures { OnOk result (stack.new ≡ (joined stack.old.0 (item (mark number token.now).spot token.now.text None None), stack.old.1)) }
 {
     let spot = Spot {
@@ -23,7 +23,7 @@ fn hold_word(stack: &mut Stack, number: u32, token: &Token) -> Result<(), AllocE
 }
 
 /// Holds the tree of a token that is an expression by itself behind what is held. Answers whether it is one.
-pub fn hold_plain(stack: &mut Stack, number: u32, token: &Token) -> Result<bool, AllocError>
+pub fn hold_plain(stack: &mut Stack<'_>, number: u32, token: &Token) -> Result<bool, AllocError>
     ensures { IfOk result (λ is_plain. HoldsNode is_plain (plain (mark number token.now)) stack.old stack.new) }
 {
     let place = token.place;
@@ -38,19 +38,30 @@ pub fn hold_plain(stack: &mut Stack, number: u32, token: &Token) -> Result<bool,
         }
         TokenKind::Number => {
             let value = token.number;
-            stack.hold_behind(number, Raw::Number { place, value })?;
+            stack.hold_behind(
+                number,
+                SyntaxNode {
+                    form: NodeForm::Number { place, value },
+                },
+            )?;
             Ok(true)
         }
         TokenKind::Text => {
             let text = stack.copy(&token.text)?;
-            stack.hold_behind(number, Raw::Text { place, text })?;
+            stack.hold_behind(
+                number,
+                SyntaxNode {
+                    form: NodeForm::Text { place, text },
+                },
+            )?;
             Ok(true)
         }
         TokenKind::Symbol => Ok(false),
     }
 }
 
-/// Whether a token of this kind is an expression by itself.
+/// Whether a token of this kind is an expression by itself. It only chooses the way: where it says no, the token is read by the way of
+/// all expressions, with the same tree, so that no contract leans on its answer.
 pub fn is_plain(kind: TokenKind) -> bool {
     !matches!(kind, TokenKind::Symbol)
 }

@@ -31,6 +31,7 @@ use crate::stack::Stack;
 use crate::stage::{Stage, begins, ends};
 use crate::subtree::{Subtrees, TALLEST};
 use asl_lexer::token::{Token, TokenKind, Tokens};
+use bumpalo::Bump;
 use std::alloc::{AllocError, Global};
 
 /// The most brackets, prefix operators and assignments that may be open.
@@ -60,7 +61,7 @@ impl From<AllocError> for Syntax {
 }
 
 // Whether a token is to be read with the one behind it, where that can be.
-fn looks_ahead(stage: &Stage, token: &Token) -> bool {
+fn looks_ahead(stage: &Stage<'_>, token: &Token) -> bool {
     match token.kind {
         TokenKind::Word | TokenKind::Path => true,
         TokenKind::Number | TokenKind::Text => match stage {
@@ -73,7 +74,7 @@ fn looks_ahead(stage: &Stage, token: &Token) -> bool {
 
 // What the token at a place came to: the place behind it, or why the reading ends there.
 #[inline(always)]
-fn moved(stack: &Stack, made: Result<(), Refusal>, at: usize) -> Result<usize, Syntax>
+fn moved(stack: &Stack<'_>, made: Result<(), Refusal>, at: usize) -> Result<usize, Syntax>
     requires few { at < 2 ^ 32 }
     ensures { ComesTo made (spec.depth stack.now.1) at result }
 {
@@ -90,9 +91,9 @@ fn moved(stack: &Stack, made: Result<(), Refusal>, at: usize) -> Result<usize, S
 
 // Reads the token at a place, which looks so.
 #[inline(always)]
-fn single(
-    stack: &mut Stack,
-    stage: &mut Stage,
+fn single<'a>(
+    stack: &mut Stack<'a>,
+    stage: &mut Stage<'a>,
     tokens: &[Token],
     at: usize,
     token: &Token,
@@ -138,9 +139,9 @@ fn is_left_paren(look: Look) -> bool
 
 // Reads the token behind an expression, which is held, and where it is an operator its last operand, if that can be.
 #[inline(always)]
-fn operated(
-    stack: &mut Stack,
-    stage: &mut Stage,
+fn operated<'a>(
+    stack: &mut Stack<'a>,
+    stage: &mut Stage<'a>,
     tokens: &[Token],
     at: usize,
     token: &Token,
@@ -182,9 +183,9 @@ fn operated(
 // Reads the token at a place where an expression may begin, or where it begins an operator between two tokens in parentheses
 // all five.
 #[inline(always)]
-fn begun(
-    stack: &mut Stack,
-    stage: &mut Stage,
+fn begun<'a>(
+    stack: &mut Stack<'a>,
+    stage: &mut Stage<'a>,
     tokens: &[Token],
     at: usize,
     token: &Token,
@@ -225,9 +226,9 @@ fn opens_call(look: Look, depth: usize) -> bool
 
 // Reads the token behind a word or path that begins an expression, and what is read with it.
 #[inline(always)]
-fn behind_word(
-    stack: &mut Stack,
-    stage: &mut Stage,
+fn behind_word<'a>(
+    stack: &mut Stack<'a>,
+    stage: &mut Stage<'a>,
     tokens: &[Token],
     at: usize,
     first: &Token,
@@ -264,7 +265,12 @@ fn behind_word(
 
 // Reads the token at a place with the one behind it, or alone where they are no pair.
 #[inline(always)]
-fn ahead(stack: &mut Stack, stage: &mut Stage, tokens: &[Token], at: usize) -> Result<usize, Syntax>
+fn ahead<'a>(
+    stack: &mut Stack<'a>,
+    stage: &mut Stage<'a>,
+    tokens: &[Token],
+    at: usize,
+) -> Result<usize, Syntax>
     requires few { length tokens.now < 2 ^ 32 }
     requires within { at + 1 < length tokens.now }
     requires holds { Holds stage.old stack.old.0 }
@@ -290,9 +296,9 @@ fn ahead(stack: &mut Stack, stage: &mut Stage, tokens: &[Token], at: usize) -> R
 
 // Reads the token behind an expression, and where it is a word or path the token behind that.
 #[inline(always)]
-fn next_word(
-    stack: &mut Stack,
-    stage: &mut Stage,
+fn next_word<'a>(
+    stack: &mut Stack<'a>,
+    stage: &mut Stage<'a>,
     tokens: &[Token],
     at: usize,
 ) -> Result<usize, Syntax>
@@ -321,9 +327,9 @@ fn next_word(
 
 // Reads the token at a place, or two of them at once. Answers the place behind them.
 #[inline(always)]
-fn advance(
-    stack: &mut Stack,
-    stage: &mut Stage,
+fn advance<'a>(
+    stack: &mut Stack<'a>,
+    stage: &mut Stage<'a>,
     tokens: &[Token],
     at: usize,
 ) -> Result<usize, Syntax>
@@ -353,11 +359,11 @@ fn advance(
     single(stack, stage, tokens, at, token, look)
 }
 
-fn read(alloc: Global, tokens: &[Token]) -> Result<Subtrees, Syntax>
+fn read<'a>(alloc: Global, arena: &'a Bump, tokens: &[Token]) -> Result<Subtrees<'a>, Syntax>
     requires { length tokens.now < 2 ^ 32 }
     ensures { EndsIn result (marks 0 tokens.now) (spec.reading (marks 0 tokens.now)) }
 {
-    let mut stack = Stack::new(alloc);
+    let mut stack = Stack::new(alloc, arena);
     let mut stage = Stage::Sequence;
     let mut at = 0;
     while at < tokens.len() {
@@ -375,8 +381,8 @@ fn read(alloc: Global, tokens: &[Token]) -> Result<Subtrees, Syntax>
     }
 }
 
-fn unit_of(trees: Subtrees) -> Result<RawUnit, Syntax>
-    ensures { Gives result trees }
+fn unit_of<'a>(trees: Subtrees<'a>) -> Result<RawUnit<'a>, Syntax>
+    ensures { Gives result trees.entry }
 {
     let Subtrees { raws, levels } = trees;
     match raws {
@@ -387,15 +393,15 @@ fn unit_of(trees: Subtrees) -> Result<RawUnit, Syntax>
     }
 }
 
-fn whole(alloc: Global, tokens: &[Token]) -> Result<RawUnit, Syntax>
+fn whole<'a>(alloc: Global, arena: &'a Bump, tokens: &[Token]) -> Result<RawUnit<'a>, Syntax>
     requires { length tokens.now < 2 ^ 32 }
     ensures { HasOutcome result tokens.now (outcome tokens.now) }
 {
-    unit_of(read(alloc, tokens)?)
+    unit_of(read(alloc, arena, tokens)?)
 }
 
-/// The one tree that spells the tokens.
-pub fn parse(alloc: Global, tokens: &Tokens) -> Result<RawUnit, Syntax>
+/// The one tree that spells the tokens. Its lists and its long texts lie in the arena.
+pub fn parse<'a>(alloc: Global, arena: &'a Bump, tokens: &Tokens) -> Result<RawUnit<'a>, Syntax>
     // Tokens are numbered.
     requires { length tokens.now < 2 ^ 32 }
     ensures spelled { IfOk result (λ unit. Spells unit.items tokens.now) }
@@ -411,5 +417,5 @@ pub fn parse(alloc: Global, tokens: &Tokens) -> Result<RawUnit, Syntax>
     // Each answer but want of memory is that of the machine on lists.
     ensures exact { HasOutcome result tokens.now (outcome tokens.now) }
 {
-    whole(alloc, tokens.as_slice())
+    whole(alloc, arena, tokens.as_slice())
 }

@@ -13,9 +13,12 @@ ghost use Rattle.asl_parser.specs.Opens.{remaining};
 
 use crate::levels::Levels;
 use crate::mark::Spot;
+use crate::nodes::{NodeForm, SyntaxNode, SyntaxNodes};
 use crate::open::{FrameGroup, FrameKind, OpenFrame, room, weight};
-use crate::raw::{Infix, Raw, Raws};
+use crate::raw::Infix;
 use crate::subtree::{BoxedSubtrees, Subtrees, TALLEST, apply_raw, given, item_raw, list_raw};
+use crate::text::SyntaxText;
+use bumpalo::Bump;
 use iasl_ports::list::Text;
 use std::alloc::{AllocError, Global};
 use std::marker::Model;
@@ -23,22 +26,25 @@ use std::mem::replace;
 
 /// The trees that were read last, which are held, and the frames that stand open around them, the innermost first. The nodes
 /// of all of them lie on one vector.
-pub struct Stack {
+pub struct Stack<'a> {
     alloc: Global,
-    nodes: Vec<Raw>,
-    outer: Vec<OpenFrame>,
-    innermost: OpenFrame,
+    // Where lists and long texts go.
+    arena: &'a Bump,
+    nodes: Vec<SyntaxNode<'a>>,
+    outer: Vec<OpenFrame<'a>>,
+    innermost: OpenFrame<'a>,
     hand: FrameGroup,
     depth: usize,
     // The boxes that were emptied.
-    spare: Vec<Box<Subtrees>>,
+    spare: Vec<Box<Subtrees<'a>>>,
 }
 
 // By hand, so that an owner lets go of it by one call (docs/DECISIONS.md).
-impl Drop for Stack {
+impl Drop for Stack<'_> {
     fn drop(self) {
         let Stack {
             alloc: _,
+            arena: _,
             nodes: _,
             outer: _,
             innermost: _,
@@ -49,18 +55,17 @@ impl Drop for Stack {
     }
 }
 
-impl Model for Stack {
+impl<'a> Model for Stack<'a> {
     ghost use Rattle.std.specs.Prelude.{List, ◌∷◌, reverse, take};
-    ghost use Rattle.std.specs.Coded.{coded_list, coded×};
-    ghost use Rattle.asl_parser.specs.contracts.subtree.Subtrees as subtrees_row;
-    ghost use Rattle.asl_parser.specs.contracts.frame.Frame as frame_row;
+    ghost use Rattle.std.specs.Coded.{codes};
+    ghost use Rattle.asl_parser.specs.contracts.raw.Raw as raw_row;
     ghost use Rattle.asl_parser.specs.declared.subtree.Subtrees.{Subtrees};
     ghost use Rattle.asl_parser.specs.declared.frame.Frame.{Frame};
     ghost use Rattle.asl_parser.specs.Opens.{trees_of, frames_of, IsStack};
 
     ghost Value = { Subtrees × List Frame };
 
-    ghost coded = { coded× subtrees_row.the_row.coded (coded_list frame_row.the_row.coded) };
+    ghost coded = { Prim.hlevel (codes, raw_row.the_row.coded) };
 
     ghost view = { λ stack. (
       trees_of stack.hand stack.nodes.items,
@@ -77,29 +82,35 @@ fn both(earlier: bool, later: bool) -> bool
     earlier && later
 }
 
-fn count(nodes: &Vec<Raw>) -> usize
+fn count(nodes: &Vec<SyntaxNode<'_>>) -> usize
     ensures { result ≡ length nodes.now.items }
 {
     nodes.as_slice().len()
 }
 
 // A word with neither arguments nor a body.
-fn named(spot: Spot, word: Text) -> Raw
-    ensures { result ≡ raws.Item spot.place word None None }
+fn named<'a>(spot: Spot, word: SyntaxText<'a>) -> SyntaxNode<'a>
+    ensures { result ≡ raws.Item spot.place word.entry None None }
 {
-    Raw::Item {
-        place: spot.place,
-        word,
-        args: None,
-        body: None,
+    SyntaxNode {
+        form: NodeForm::Item {
+            place: spot.place,
+            word,
+            args: None,
+            body: None,
+        },
     }
 }
 
 // Adds a node, unless it would be too tall. Answers whether it is kept.
 #[inline(always)]
-fn keep(nodes: &mut Vec<Raw>, low: bool, raw: Option<Raw>) -> Result<bool, AllocError>
-    ensures nodes { OnOk result (nodes.new.items ≡ nodes.old.items ++ option_to_list (grow.cut low raw)) }
-    ensures kept { IfOk result (λ is_kept. is_kept ≡ is_some (grow.cut low raw)) }
+fn keep<'a>(
+    nodes: &mut Vec<SyntaxNode<'a>>,
+    low: bool,
+    raw: Option<SyntaxNode<'a>>,
+) -> Result<bool, AllocError>
+    ensures nodes { OnOk result (nodes.new.items ≡ nodes.old.items ++ option_to_list (grow.cut low raw.entry)) }
+    ensures kept { IfOk result (λ is_kept. is_kept ≡ is_some (grow.cut low raw.entry)) }
     ensures err { OnErr result (nodes.new.items ≡ nodes.old.items) }
 {
     if !low {
@@ -125,16 +136,20 @@ fn deeper(depth: usize, weight: usize) -> Result<usize, AllocError>
 }
 
 // Puts a frame on the others.
-fn put_on(outer: &mut Vec<OpenFrame>, innermost: &mut OpenFrame, next: OpenFrame)
+fn put_on<'a>(outer: &mut Vec<OpenFrame<'a>>, innermost: &mut OpenFrame<'a>, next: OpenFrame<'a>)
     requires { vec_len outer.old < vec_capacity outer.old }
-    ensures innermost { innermost.new ≡ next }
+    ensures innermost { innermost.new ≡ next.entry }
     ensures outer { reverse outer.new.items ≡ innermost.old ∷ reverse outer.old.items }
 {
     outer.push_reserved(replace(innermost, next));
 }
 
 // Takes the innermost frame off.
-fn take_off(alloc: Global, outer: &mut Vec<OpenFrame>, innermost: &mut OpenFrame) -> OpenFrame
+fn take_off<'a>(
+    alloc: Global,
+    outer: &mut Vec<OpenFrame<'a>>,
+    innermost: &mut OpenFrame<'a>,
+) -> OpenFrame<'a>
     ensures taken { result ≡ innermost.old }
     ensures rest { innermost.new ∷ reverse outer.new.items ≡ remaining (reverse outer.old.items) }
 {
@@ -150,13 +165,14 @@ fn take_off(alloc: Global, outer: &mut Vec<OpenFrame>, innermost: &mut OpenFrame
     }
 }
 
-impl Stack {
+impl<'a> Stack<'a> {
     /// A source of which nothing was read.
-    pub fn new(alloc: Global) -> Stack
+    pub fn new(alloc: Global, arena: &'a Bump) -> Stack<'a>
         ensures { result ≡ (no_subtrees, spec.start) }
     {
         Stack {
             alloc,
+            arena,
             nodes: Vec::new(alloc),
             outer: Vec::new(alloc),
             innermost: OpenFrame {
@@ -171,10 +187,10 @@ impl Stack {
 
     /// A text of its own.
     #[inline(always)]
-    pub fn copy(&self, text: &Text) -> Result<Text, AllocError>
+    pub fn copy(&self, text: &Text) -> Result<SyntaxText<'a>, AllocError>
         ensures { IfOk result (λ copied. copied ≡ text.now) }
     {
-        text.copy(self.alloc)
+        SyntaxText::new(self.alloc, self.arena, text)
     }
 
     /// How many brackets, prefix operators and assignments stand open.
@@ -193,7 +209,7 @@ impl Stack {
     }
 
     /// What the innermost frame is.
-    pub fn kind(&self) -> &FrameKind
+    pub fn kind(&self) -> &FrameKind<'a>
         ensures { result.now ≡ kind_of self.now.1 }
     {
         &self.innermost.kind
@@ -216,9 +232,9 @@ impl Stack {
 
     /// Holds a tree of one node.
     #[inline(always)]
-    pub fn hold(&mut self, first: u32, raw: Raw) -> Result<(), AllocError>
+    pub fn hold(&mut self, first: u32, raw: SyntaxNode<'a>) -> Result<(), AllocError>
         requires { self.old.0 ≡ no_subtrees }
-        ensures tree { OnOk result (tree_of self.new.0 ≡ grow.leaf first raw) }
+        ensures tree { OnOk result (tree_of self.new.0 ≡ grow.leaf first raw.entry) }
         ensures one { OnOk result (IsOne self.new.0) }
         ensures frames { OnOk result (self.new.1 ≡ self.old.1) }
     {
@@ -229,8 +245,8 @@ impl Stack {
 
     /// Holds a tree of one node behind what is held.
     #[inline(always)]
-    pub fn hold_behind(&mut self, first: u32, raw: Raw) -> Result<(), AllocError>
-        ensures { OnOk result (self.new ≡ (joined self.old.0 (grow.leaf first raw), self.old.1)) }
+    pub fn hold_behind(&mut self, first: u32, raw: SyntaxNode<'a>) -> Result<(), AllocError>
+        ensures { OnOk result (self.new ≡ (joined self.old.0 (grow.leaf first raw.entry), self.old.1)) }
     {
         self.nodes.push(raw)?;
         self.hand.levels.join_one(self.alloc, first);
@@ -240,8 +256,8 @@ impl Stack {
     /// Holds a word with neither arguments nor a body behind what is held.
     #[inline(always)]
     #[tactic(auto, unfolding(crate::specs::Grow::item, crate::specs::Grow::node_over, crate::specs::Grow::merged))]
-    pub fn hold_name_behind(&mut self, spot: Spot, word: Text) -> Result<(), AllocError>
-        ensures { OnOk result (self.new ≡ (joined self.old.0 (grow.item spot word None None), self.old.1)) }
+    pub fn hold_name_behind(&mut self, spot: Spot, word: SyntaxText<'a>) -> Result<(), AllocError>
+        ensures { OnOk result (self.new ≡ (joined self.old.0 (grow.item spot word.entry None None), self.old.1)) }
     {
         self.hold_behind(spot.token, named(spot, word))?;
         Ok(())
@@ -249,9 +265,9 @@ impl Stack {
 
     /// Opens a frame of this kind behind what is held, which becomes the first of its trees.
     #[inline(always)]
-    pub fn open(&mut self, kind: FrameKind) -> Result<(), AllocError>
+    pub fn open(&mut self, kind: FrameKind<'a>) -> Result<(), AllocError>
         requires { Begins kind self.old.0 }
-        ensures { OnOk result (self.new ≡ (no_subtrees, frame_on kind self.old.0 self.old.1)) }
+        ensures { OnOk result (self.new ≡ (no_subtrees, frame_on kind.entry self.old.0 self.old.1)) }
     {
         let depth = deeper(self.depth, weight(&kind))?;
         self.outer.reserve(1)?;
@@ -311,10 +327,10 @@ impl Stack {
 
     /// Adds a tree of one node to the innermost frame.
     #[inline(always)]
-    pub fn append(&mut self, first: u32, raw: Raw) -> Result<(), AllocError>
+    pub fn append(&mut self, first: u32, raw: SyntaxNode<'a>) -> Result<(), AllocError>
         requires none { self.old.0 ≡ no_subtrees }
         requires lists { lists (kind_of self.old.1) ≡ true }
-        ensures { OnOk result (self.new ≡ (no_subtrees, added (grow.leaf first raw) self.old.1)) }
+        ensures { OnOk result (self.new ≡ (no_subtrees, added (grow.leaf first raw.entry) self.old.1)) }
     {
         self.nodes.push(raw)?;
         self.innermost.group.levels.join_one(self.alloc, first);
@@ -325,10 +341,10 @@ impl Stack {
     /// Adds a word with neither arguments nor a body to the innermost frame.
     #[inline(always)]
     #[tactic(auto, unfolding(crate::specs::Grow::item, crate::specs::Grow::node_over, crate::specs::Grow::merged))]
-    pub fn append_name(&mut self, spot: Spot, word: Text) -> Result<(), AllocError>
+    pub fn append_name(&mut self, spot: Spot, word: SyntaxText<'a>) -> Result<(), AllocError>
         requires none { self.old.0 ≡ no_subtrees }
         requires lists { lists (kind_of self.old.1) ≡ true }
-        ensures { OnOk result (self.new ≡ (no_subtrees, added (grow.item spot word None None) self.old.1)) }
+        ensures { OnOk result (self.new ≡ (no_subtrees, added (grow.item spot word.entry None None) self.old.1)) }
     {
         self.append(spot.token, named(spot, word))?;
         Ok(())
@@ -336,7 +352,7 @@ impl Stack {
 
     /// Ends the innermost frame, whose trees are held.
     #[inline(always)]
-    pub fn end(&mut self) -> FrameKind
+    pub fn end(&mut self) -> FrameKind<'a>
         requires none { self.old.0 ≡ no_subtrees }
         requires trees { has_trees (kind_of self.old.1) ≡ true }
         ensures kind { result ≡ kind_of self.old.1 }
@@ -350,7 +366,7 @@ impl Stack {
 
     /// Ends the innermost frame, whose trees are held with the one that was held behind them.
     #[inline(always)]
-    pub fn end_with(&mut self) -> Result<FrameKind, AllocError>
+    pub fn end_with(&mut self) -> Result<FrameKind<'a>, AllocError>
         requires one { IsOne self.old.0 }
         requires trees { has_trees (kind_of self.old.1) ≡ true }
         ensures kind { IfOk result (λ kind. kind ≡ kind_of self.old.1) }
@@ -369,21 +385,21 @@ impl Stack {
     }
 
     // The nodes that are held, taken off.
-    fn take_raws(&mut self) -> Result<Option<Raws>, AllocError>
+    fn take_raws(&mut self) -> Result<Option<SyntaxNodes<'a>>, AllocError>
         ensures raws { IfOk result (λ raws. raws ≡ self.old.0.raws) }
         ensures rest { OnOk result (self.new ≡ (cleared self.old.0, self.old.1)) }
     {
         if !self.hand.kept {
             return Ok(None);
         }
-        let raws = self.nodes.split_off(self.hand.start)?;
-        Ok(Some(Raws::from_vec(raws)))
+        let raws = SyntaxNodes::taken(self.arena, &mut self.nodes, self.hand.start)?;
+        Ok(Some(raws))
     }
 
     // Holds a node over what is held.
     #[inline(always)]
-    fn put(&mut self, first: u32, raw: Option<Raw>) -> Result<(), AllocError>
-        ensures tree { OnOk result (tree_of self.new.0 ≡ grow.node_over first raw self.old.0.levels) }
+    fn put(&mut self, first: u32, raw: Option<SyntaxNode<'a>>) -> Result<(), AllocError>
+        ensures tree { OnOk result (tree_of self.new.0 ≡ grow.node_over first raw.entry self.old.0.levels) }
         ensures one { OnOk result (IsOne self.new.0) }
         ensures frames { OnOk result (self.new.1 ≡ self.old.1) }
     {
@@ -407,8 +423,8 @@ impl Stack {
     }
 
     // Trees out of their box, which is kept for others.
-    fn unboxed(&mut self, boxed: BoxedSubtrees) -> Result<Subtrees, AllocError>
-        ensures trees { IfOk result (λ trees. trees ≡ boxed) }
+    fn unboxed(&mut self, boxed: BoxedSubtrees<'a>) -> Result<Subtrees<'a>, AllocError>
+        ensures trees { IfOk result (λ trees. trees ≡ boxed.entry) }
         ensures stack { OnOk result (self.new ≡ self.old) }
     {
         let (trees, shell) = boxed.taken(self.alloc);
@@ -419,9 +435,12 @@ impl Stack {
     // The nodes of a part of an item, whose levels go before those of what is held.
     #[inline(always)]
     #[tactic(auto, using(crate::proofs::Merged::merged_none))]
-    fn go_behind(&mut self, part: Option<BoxedSubtrees>) -> Result<Option<Option<Raws>>, AllocError>
-        ensures raws { IfOk result (λ raws. raws ≡ grow.raws_given part) }
-        ensures levels { OnOk result (self.new.0.levels ≡ merged (grow.levels_given part) self.old.0.levels) }
+    fn go_behind(
+        &mut self,
+        part: Option<BoxedSubtrees<'a>>,
+    ) -> Result<Option<Option<SyntaxNodes<'a>>>, AllocError>
+        ensures raws { IfOk result (λ raws. raws ≡ grow.raws_given part.entry) }
+        ensures levels { OnOk result (self.new.0.levels ≡ merged (grow.levels_given part.entry) self.old.0.levels) }
         ensures frames { OnOk result (self.new.1 ≡ self.old.1) }
     {
         match part {
@@ -436,7 +455,7 @@ impl Stack {
 
     /// Takes what is held away.
     #[inline(always)]
-    pub fn take(&mut self) -> Result<Subtrees, AllocError>
+    pub fn take(&mut self) -> Result<Subtrees<'a>, AllocError>
         ensures trees { IfOk result (λ trees. trees ≡ self.old.0) }
         ensures rest { OnOk result (self.new ≡ (no_subtrees, self.old.1)) }
     {
@@ -448,7 +467,7 @@ impl Stack {
     }
 
     /// Takes what is held away, in a box.
-    pub fn take_boxed(&mut self) -> Result<BoxedSubtrees, AllocError>
+    pub fn take_boxed(&mut self) -> Result<BoxedSubtrees<'a>, AllocError>
         ensures trees { IfOk result (λ trees. trees ≡ self.old.0) }
         ensures rest { OnOk result (self.new ≡ (no_subtrees, self.old.1)) }
     {
@@ -485,9 +504,9 @@ impl Stack {
 
     /// Holds a word with neither arguments nor a body.
     #[tactic(auto, unfolding(crate::specs::Grow::item, crate::specs::Grow::node_over, crate::specs::Grow::merged))]
-    pub fn name(&mut self, spot: Spot, word: Text) -> Result<(), AllocError>
+    pub fn name(&mut self, spot: Spot, word: SyntaxText<'a>) -> Result<(), AllocError>
         requires { self.old.0 ≡ no_subtrees }
-        ensures tree { OnOk result (tree_of self.new.0 ≡ grow.item spot word None None) }
+        ensures tree { OnOk result (tree_of self.new.0 ≡ grow.item spot word.entry None None) }
         ensures one { OnOk result (IsOne self.new.0) }
         ensures frames { OnOk result (self.new.1 ≡ self.old.1) }
     {
@@ -497,8 +516,8 @@ impl Stack {
 
     /// Holds a word with what was held as its arguments.
     #[inline(always)]
-    pub fn call(&mut self, spot: Spot, word: Text) -> Result<(), AllocError>
-        ensures tree { OnOk result (tree_of self.new.0 ≡ grow.item spot word (Some self.old.0) None) }
+    pub fn call(&mut self, spot: Spot, word: SyntaxText<'a>) -> Result<(), AllocError>
+        ensures tree { OnOk result (tree_of self.new.0 ≡ grow.item spot word.entry (Some self.old.0) None) }
         ensures one { OnOk result (IsOne self.new.0) }
         ensures frames { OnOk result (self.new.1 ≡ self.old.1) }
     {
@@ -511,10 +530,10 @@ impl Stack {
     pub fn block(
         &mut self,
         spot: Spot,
-        word: Text,
-        args: Option<BoxedSubtrees>,
+        word: SyntaxText<'a>,
+        args: Option<BoxedSubtrees<'a>>,
     ) -> Result<(), AllocError>
-        ensures tree { OnOk result (tree_of self.new.0 ≡ grow.item spot word args (Some self.old.0)) }
+        ensures tree { OnOk result (tree_of self.new.0 ≡ grow.item spot word.entry args.entry (Some self.old.0)) }
         ensures one { OnOk result (IsOne self.new.0) }
         ensures frames { OnOk result (self.new.1 ≡ self.old.1) }
     {

@@ -3,11 +3,11 @@ ghost use Rattle.std.specs.Prelude.{◌≡◌};
 ghost use Rattle.asl_parser.specs.Stages as spec;
 
 use crate::mark::Spot;
-use iasl_ports::list::Text;
+use crate::text::SyntaxText;
 
 /// What was read last, and so what may come.
 #[derive(Drop)]
-pub enum Stage {
+pub enum Stage<'a> {
     /// An expression has to begin.
     Operand,
     /// Arguments have begun.
@@ -21,9 +21,9 @@ pub enum Stage {
     /// An expression of a body or an item of the source may begin.
     Sequence,
     /// A word or path, which may have arguments or a body.
-    Word { spot: Spot, word: Text },
+    Word { spot: Spot, word: SyntaxText<'a> },
     /// A word or path whose arguments are held, which may have a body.
-    Called { spot: Spot, word: Text },
+    Called { spot: Spot, word: SyntaxText<'a> },
     /// An expression, which is held, that takes neither arguments nor a body.
     Whole,
     /// A list, or a member of one, which is held.
@@ -31,7 +31,7 @@ pub enum Stage {
 }
 
 /// Whether an expression may begin, or has to.
-pub fn begins(stage: &Stage) -> bool
+pub fn begins(stage: &Stage<'_>) -> bool
     ensures { result ≡ spec.begins stage.now }
 {
     match stage {
@@ -41,7 +41,7 @@ pub fn begins(stage: &Stage) -> bool
 }
 
 /// Whether an expression was read that a word or path does not go on with.
-pub fn ends(stage: &Stage) -> bool
+pub fn ends(stage: &Stage<'_>) -> bool
     ensures { result ≡ spec.ends stage.now }
 {
     match stage {

@@ -13,7 +13,7 @@ use Rattle.asl_words.specs.Meanings.{meaning_of, run_behind, is_default}
 use Rattle.asl_shape.specs.AtRaw.{is_separator_at, is_comma_at, run_after_at, is_listed_at, byte_slot_at, is_some, is_text_at, due_at, default_after_at}
 use Rattle.acpi_state.specs.Outcomes.{choose}
 use Rattle.asl_shape.proofs.ItemLaws.{is_none_short, is_none_long}
-use Rattle.asl_parser.proofs.Views.{written_number, written_text, written_item, written_apply, written_list, written_comma, written_semicolon, written_empty}
+use Rattle.asl_parser.specs.Views.{written_number, written_text, written_item, written_apply, written_list, written_comma, written_semicolon, written_empty}
 
 pub given_some : (raws : Option (List Raw)) → is_given (written_in raws) ≡ is_some raws
 given_some None = refl

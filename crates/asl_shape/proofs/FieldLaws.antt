@@ -13,7 +13,7 @@ use Rattle.asl_shape.specs.declared.fields.Due.{Due}
 use Rattle.asl_parser.specs.Written.{written, writtens}
 use Rattle.asl_shape.specs.Shapes.{meaning_in, next_due, may_stop, nowhere, place_of, first_place, inner_place}
 use Rattle.asl_shape.specs.AtRaw.{is_some, inside_at, is_comma_at, is_separator_at, meaning_at, place_at, first_place_at, inner_place_at, element_place_at, goes_on_at, due_behind_at, is_field_list_at}
-use Rattle.asl_parser.proofs.Views.{written_number, written_text, written_item, written_apply, written_list, written_comma, written_semicolon, written_empty}
+use Rattle.asl_parser.specs.Views.{written_number, written_text, written_item, written_apply, written_list, written_comma, written_semicolon, written_empty}
 use Rattle.asl_shape.proofs.Settled.{join_nothing}
 use Rattle.asl_shape.proofs.Braces.{given_some, from_item}
 use Rattle.asl_shape.proofs.ItemLaws.{inside_written}

@@ -6,7 +6,7 @@ use Rattle.asl_parser.specs.declared.raw.Raw.{Raw}
 use Rattle.asl_parser.specs.declared.raw.Raw.TheVariants as raw
 use Rattle.asl_shape.specs.Shapes.{place_of}
 use Rattle.asl_shape.specs.AtRaw.{place_at}
-use Rattle.asl_parser.proofs.Views.{written_number, written_text, written_item, written_apply, written_list, written_comma, written_semicolon, written_empty}
+use Rattle.asl_parser.specs.Views.{written_number, written_text, written_item, written_apply, written_list, written_comma, written_semicolon, written_empty}
 
 pub place_number : (other place : Place) (n : ℕ) → place_at other (raw.Number place n) ≡ place
 unfolding place_at

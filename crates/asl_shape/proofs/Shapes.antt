@@ -25,7 +25,8 @@ use Rattle.asl_words.specs.declared.operator.Body.{Body}
 use Rattle.asl_words.specs.declared.operator.Body.TheVariants as braces
 use Rattle.asl_words.specs.declared.meaning.Reading.TheVariants as read
 use Rattle.asl_parser.specs.Written.{writtens, written, written_in}
-use Rattle.asl_shape.specs.Sizes.{size, sizes, size_at, sizes_at, size_in_at}
+use Rattle.asl_parser.specs.Sizes.{size, sizes, size_at, sizes_at, size_in_at}
+use Rattle.asl_parser.specs.Falls.{size_item, size_apply, size_none, size_some}
 use Rattle.asl_words.specs.declared.operator.FieldWord.{FieldWord}
 use Rattle.asl_words.specs.Operators.{parameters_of, body_of, parameters_as, body_as, element_parameters, macro_parameters}
 use Rattle.asl_shape.specs.Shapes
@@ -37,7 +38,7 @@ use Rattle.asl_words.specs.Resources.{descriptor_parameters, descriptor_body}
 use Rattle.resource_layout.specs.declared.descriptor.Descriptor.{Descriptor}
 use Rattle.asl_shape.specs.AtRaw.{has_arguments_at, template_at, descriptor_at, inside_at, bare_at, listed_at, place_at, shape_at, is_separator_at, run_after_at, operands_at, call_at, arguments_at, arguments_in_at, contents_at, members_at}
 use Rattle.asl_shape.specs.AtRaw.{terms_at, member_at, argument_at, form_at, read_at, is_some, one_at, left_at, is_listed_at, byte_slot_at, item_at, meaning_at, element_at, macro_at, is_field_list_at, elements_at, cases_at, default_after_at}
-use Rattle.asl_parser.proofs.Views.{written_number, written_text, written_item, written_apply, written_list, written_comma, written_semicolon, written_empty}
+use Rattle.asl_parser.specs.Views.{written_number, written_text, written_item, written_apply, written_list, written_comma, written_semicolon, written_empty}
 use Rattle.asl_shape.proofs.Terms.{term_rules, omitted_term, nothing_more}
 use Rattle.asl_shape.proofs.Leaves.{place_rules}
 use Rattle.asl_shape.proofs.Last.{last_join, with_join}
@@ -338,26 +339,10 @@ expression_body _ = refl
 
 -- ---- sizes
 
-pub size_item : (place : Place) (w : List ℕ) (args body : Option (List Raw)) → size_at (raw.Item place w args body) ≡ suc (size_in_at args + size_in_at body)
-unfolding size_at size_in_at
-size_item place w args body = ap size (written_item place w args body)
-
-pub size_apply : (place : Place) (op : Infix) (args : List Raw) → size_at (raw.Apply place op args) ≡ suc (sizes_at args)
-unfolding size_at sizes_at
-size_apply place op args = ap size (written_apply place op args)
-
 pub size_inside : (raws : Option (List Raw)) → sizes_at (inside_at raws) ≡ size_in_at raws
 unfolding sizes_at size_in_at writtens
 size_inside None = refl
 size_inside (Some raws) = refl
-
-pub size_none : size_in_at None ≡ 0
-unfolding size_in_at
-size_none = refl
-
-pub size_some : (raws : List Raw) → size_in_at (Some raws) ≡ sizes_at raws
-unfolding sizes_at size_in_at
-size_some raws = refl
 
 pub size_within : (raws : List Raw) (i : ℕ) (d : Raw) → i < length raws → size_at (get_or raws i d) ≤ sizes_at raws
 unfolding sizes_at size_at writtens

@@ -15,7 +15,7 @@ use Rattle.asl_shape.specs.AtRaw.{is_type_at, are_types_at, is_type_or_list_at, 
 use Rattle.asl_shape.proofs.Terms.{nothing_more}
 use Rattle.asl_shape.proofs.Braces.{from_item, given_some}
 use Rattle.asl_shape.proofs.ItemLaws.{counted}
-use Rattle.asl_parser.proofs.Views.{written_number, written_text, written_item, written_apply, written_list, written_comma, written_semicolon, written_empty}
+use Rattle.asl_parser.specs.Views.{written_number, written_text, written_item, written_apply, written_list, written_comma, written_semicolon, written_empty}
 
 pub type_number : (place : Place) (n : ℕ) → is_type_at (raw.Number place n) ≡ false
 unfolding is_type_at

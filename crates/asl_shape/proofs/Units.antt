@@ -23,7 +23,7 @@ use Rattle.asl_shape.proofs.Settled.{at_some, at_none}
 use Rattle.asl_shape.proofs.Braces.{given_some}
 use Rattle.asl_shape.proofs.ItemLaws.{inside_written}
 use Rattle.asl_shape.proofs.Shapes.{arguments_are, from_none, none_left, all_made}
-use Rattle.asl_parser.proofs.Views.{written_number, written_text, written_item, written_apply, written_list, written_comma, written_semicolon, written_empty}
+use Rattle.asl_parser.specs.Views.{written_number, written_text, written_item, written_apply, written_list, written_comma, written_semicolon, written_empty}
 
 pub text_some : (nodes : List Node) (i : ℕ) (d : Node) → i < length nodes → d ≡ get_or nodes i d → text_of (plan_of d.term) ≡ text_of (plan_at (plans_of nodes) i)
 text_some nodes i d lt e = ap (λ (n : Node). text_of (plan_of n.term)) e ∙ ap text_of (sym (at_some nodes i d lt))

@@ -6,4 +6,3 @@ pub mod Shapes
 pub mod AtRaw
 pub mod Forms
 pub mod Places
-pub mod Sizes

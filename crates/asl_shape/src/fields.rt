@@ -10,7 +10,7 @@ use crate::leaf::place_in;
 use crate::lists::{is_comma, is_separator};
 use crate::nodes::push;
 use crate::work::{NOWHERE, Work, tell};
-use asl_parser::Raw;
+use asl_parser::{NodeForm, SyntaxNode};
 use asl_tree::path::{NameSeg, Path};
 use asl_tree::term::{Node, Term};
 use asl_words::meaning::{Meaning, is_connection, is_whole, meaning_of, slot_as};
@@ -41,23 +41,23 @@ pub enum Due {
 
 /// What the word of a part is, if it has one.
 #[tactic(auto, using(crate::proofs::FieldLaws::meaning_rules))]
-pub fn meaning_in(raw: &Raw) -> Meaning
+pub fn meaning_in(raw: &SyntaxNode<'_>) -> Meaning
     ensures { result ≡ at.meaning_at raw.now }
 {
-    match raw {
-        Raw::Item { word, body, .. } => meaning_of(word.as_bytes(), is_given(body)),
-        Raw::Number { .. } => Meaning::Unknown,
-        Raw::Text { .. } => Meaning::Unknown,
-        Raw::Apply { .. } => Meaning::Unknown,
-        Raw::List { .. } => Meaning::Unknown,
-        Raw::Comma => Meaning::Unknown,
-        Raw::Semicolon => Meaning::Unknown,
-        Raw::Empty => Meaning::Unknown,
+    match &raw.form {
+        NodeForm::Item { word, body, .. } => meaning_of(word.as_bytes(), is_given(body)),
+        NodeForm::Number { .. } => Meaning::Unknown,
+        NodeForm::Text { .. } => Meaning::Unknown,
+        NodeForm::Apply { .. } => Meaning::Unknown,
+        NodeForm::List { .. } => Meaning::Unknown,
+        NodeForm::Comma => Meaning::Unknown,
+        NodeForm::Semicolon => Meaning::Unknown,
+        NodeForm::Empty => Meaning::Unknown,
     }
 }
 
 /// How an argument is read for this slot. Its word is asked only for where the slot is one that words decide.
-pub fn slot_of(slot: Slot, raw: &Raw) -> Slot
+pub fn slot_of(slot: Slot, raw: &SyntaxNode<'_>) -> Slot
     ensures { result ≡ slot_as slot (at.meaning_at raw.now) }
 {
     match slot {
@@ -106,7 +106,7 @@ fn next_due(due: Due, comma: bool, separator: bool, whole: bool) -> Option<Due>
 }
 
 #[tactic(auto, using(crate::proofs::FieldLaws::next_rules))]
-fn goes_on(due: Due, raw: &Raw) -> Option<Due>
+fn goes_on(due: Due, raw: &SyntaxNode<'_>) -> Option<Due>
     ensures { result ≡ at.goes_on_at due raw.now }
 {
     next_due(
@@ -119,7 +119,7 @@ fn goes_on(due: Due, raw: &Raw) -> Option<Due>
 
 /// What is due behind a member.
 #[tactic(auto, using(crate::proofs::FieldLaws::next_rules))]
-pub fn due_behind(due: Due, raw: &Raw) -> Due
+pub fn due_behind(due: Due, raw: &SyntaxNode<'_>) -> Due
     ensures { result ≡ at.due_behind_at due raw.now }
 {
     match goes_on(due, raw) {
@@ -139,7 +139,7 @@ fn may_stop(due: Due) -> bool
 
 /// Whether units, gaps and whole elements stand with commas between them.
 #[tactic(auto, using(crate::proofs::FieldLaws::list_steps))]
-pub fn is_field_list(raws: &[Raw]) -> bool
+pub fn is_field_list(raws: &[SyntaxNode<'_>]) -> bool
     ensures { result ≡ at.is_field_list_at spec.begin raws.now }
 {
     let mut due = Due::Element;
@@ -183,7 +183,7 @@ pub fn named_unit(place: Place, term: &Term) -> Option<UnitName>
 
 // The place of the first argument.
 #[tactic(auto, using(crate::proofs::FieldLaws::place_rules))]
-fn first_place(place: Place, args: &[Raw]) -> Place
+fn first_place(place: Place, args: &[SyntaxNode<'_>]) -> Place
     ensures { result ≡ at.first_place_at place args.now }
 {
     match args.first() {
@@ -193,24 +193,24 @@ fn first_place(place: Place, args: &[Raw]) -> Place
 }
 
 #[tactic(auto, using(crate::proofs::FieldLaws::place_rules))]
-fn inner_place(place: Place, raw: &Raw) -> Place
+fn inner_place(place: Place, raw: &SyntaxNode<'_>) -> Place
     ensures { result ≡ at.inner_place_at place raw.now }
 {
-    match raw {
-        Raw::Item { args, .. } => first_place(place, inside_of(args)),
-        Raw::Number { .. } => place,
-        Raw::Text { .. } => place,
-        Raw::Apply { .. } => place,
-        Raw::List { .. } => place,
-        Raw::Comma => place,
-        Raw::Semicolon => place,
-        Raw::Empty => place,
+    match &raw.form {
+        NodeForm::Item { args, .. } => first_place(place, inside_of(args)),
+        NodeForm::Number { .. } => place,
+        NodeForm::Text { .. } => place,
+        NodeForm::Apply { .. } => place,
+        NodeForm::List { .. } => place,
+        NodeForm::Comma => place,
+        NodeForm::Semicolon => place,
+        NodeForm::Empty => place,
     }
 }
 
 /// Where an element stands: at its word, or where it is a connection at what it is connected to.
 #[tactic(auto, using(crate::proofs::FieldLaws::place_rules))]
-pub fn element_place(raw: &Raw) -> Place
+pub fn element_place(raw: &SyntaxNode<'_>) -> Place
     ensures { result ≡ at.element_place_at raw.now }
 {
     if is_connection(meaning_in(raw)) {
@@ -226,7 +226,7 @@ pub fn miss_comma(
     alloc: Global,
     work: &mut Work,
     unit: Option<UnitName>,
-    raw: &Raw,
+    raw: &SyntaxNode<'_>,
 ) -> Result<(), AllocError>
     ensures { OnOk result (work.new.faults.items ≡ work.old.faults.items ++ (at.comma_at unit raw.now).faults) }
 {

@@ -6,7 +6,7 @@ ghost use Rattle.asl_shape.specs.AtRaw as at;
 ghost use Rattle.asl_parser.specs.Written.{written, writtens, written_in};
 
 use crate::around::Around;
-use asl_parser::{Raw, Raws};
+use asl_parser::{NodeForm, SyntaxNode, SyntaxNodes};
 use asl_words::meaning::{Meaning, is_same, is_unknown, may_be, may_end, wants_braces};
 use asl_words::operator::{Parameter, Slot};
 use asl_words::parameters::{element_parameters, macro_parameters, parameters_of};
@@ -14,23 +14,23 @@ use asl_words::paths::parts;
 use asl_words::resources::descriptor_parameters;
 use iasl_messages::number::{NOT_ALLOWED_HERE, UNKNOWN_OPERATOR, WRONG_ARGUMENT_COUNT, WRONG_BODY};
 
-fn is_empty(raw: &Raw) -> bool
+fn is_empty(raw: &SyntaxNode<'_>) -> bool
     ensures { result ≡ spec.is_empty (written raw.now) }
 {
-    match raw {
-        Raw::Empty => true,
-        Raw::Number { .. } => false,
-        Raw::Text { .. } => false,
-        Raw::Item { .. } => false,
-        Raw::Apply { .. } => false,
-        Raw::List { .. } => false,
-        Raw::Comma => false,
-        Raw::Semicolon => false,
+    match &raw.form {
+        NodeForm::Empty => true,
+        NodeForm::Number { .. } => false,
+        NodeForm::Text { .. } => false,
+        NodeForm::Item { .. } => false,
+        NodeForm::Apply { .. } => false,
+        NodeForm::List { .. } => false,
+        NodeForm::Comma => false,
+        NodeForm::Semicolon => false,
     }
 }
 
 #[tactic(auto, using(crate::proofs::ItemLaws::takes_rules))]
-pub fn takes(parameters: &[Parameter], args: &[Raw]) -> bool
+pub fn takes(parameters: &[Parameter], args: &[SyntaxNode<'_>]) -> bool
     ensures { result ≡ at.takes_at parameters.now args.now }
 {
     let Some((parameter, others)) = parts(parameters) else {
@@ -47,7 +47,7 @@ pub fn takes(parameters: &[Parameter], args: &[Raw]) -> bool
 }
 
 #[tactic(auto, using(crate::proofs::ItemLaws::empty_rules))]
-fn none_empty(args: &[Raw]) -> bool
+fn none_empty(args: &[SyntaxNode<'_>]) -> bool
     ensures { result ≡ at.none_empty_at args.now }
 {
     let Some((first, rest)) = parts(args) else {
@@ -61,7 +61,7 @@ fn none_empty(args: &[Raw]) -> bool
 }
 
 #[tactic(auto, using(crate::proofs::ItemLaws::call_rules))]
-fn is_call(args: &[Raw]) -> bool
+fn is_call(args: &[SyntaxNode<'_>]) -> bool
     ensures { result ≡ at.is_call_at args.now }
 {
     if args.len() <= 7 {
@@ -72,7 +72,7 @@ fn is_call(args: &[Raw]) -> bool
 }
 
 #[tactic(auto, using(crate::proofs::ItemLaws::has_rules))]
-fn has_arguments(meaning: Meaning, args: &[Raw]) -> bool
+fn has_arguments(meaning: Meaning, args: &[SyntaxNode<'_>]) -> bool
     ensures { result ≡ at.has_arguments_at meaning args.now }
 {
     match meaning {
@@ -91,7 +91,7 @@ pub fn item_fault(
     slot: Slot,
     inside: Around,
     meaning: Meaning,
-    args: &[Raw],
+    args: &[SyntaxNode<'_>],
     has_body: bool,
 ) -> Option<u16>
     ensures { result ≡ words.item_fault slot inside.method meaning (at.has_arguments_at meaning args.now) has_body }
@@ -113,7 +113,7 @@ pub fn item_fault(
 
 /// What stands in brackets.
 #[tactic(auto, using(crate::proofs::ItemLaws::inside_rules))]
-pub fn inside_of(raws: &Option<Raws>) -> &[Raw]
+pub fn inside_of<'r, 'a>(raws: &'r Option<SyntaxNodes<'a>>) -> &'r [SyntaxNode<'a>]
     ensures { result.now ≡ at.inside_at raws.now }
 {
     match raws {
@@ -123,7 +123,7 @@ pub fn inside_of(raws: &Option<Raws>) -> &[Raw]
 }
 
 /// Whether brackets are there.
-pub fn is_given(raws: &Option<Raws>) -> bool
+pub fn is_given(raws: &Option<SyntaxNodes<'_>>) -> bool
     ensures { result ≡ at.is_some raws.now }
 {
     match raws {

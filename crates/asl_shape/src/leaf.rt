@@ -11,7 +11,7 @@ use crate::nodes::{add_refused, push};
 use crate::work::{Work, refuse};
 use acpi_values::integer::wrap;
 use acpi_values::width::Width;
-use asl_parser::Raw;
+use asl_parser::{NodeForm, SyntaxNode, SyntaxText};
 use asl_tree::term::{Node, Term};
 use asl_words::meaning::{Meaning, meaning_of, takes_expression, takes_known, unfit};
 use asl_words::operator::{Known, Slot, StringForm, TextMacro, WordKind};
@@ -26,18 +26,18 @@ use std::alloc::{AllocError, Global};
 
 /// The place of a node, or this one where it has none.
 #[tactic(auto, using(crate::proofs::Leaves::place_rules))]
-pub fn place_in(place: Place, raw: &Raw) -> Place
+pub fn place_in(place: Place, raw: &SyntaxNode<'_>) -> Place
     ensures { result ≡ at.place_at place raw.now }
 {
-    match raw {
-        Raw::Number { place, .. } => *place,
-        Raw::Text { place, .. } => *place,
-        Raw::Item { place, .. } => *place,
-        Raw::Apply { place, .. } => *place,
-        Raw::List { place, .. } => *place,
-        Raw::Comma => place,
-        Raw::Semicolon => place,
-        Raw::Empty => place,
+    match &raw.form {
+        NodeForm::Number { place, .. } => *place,
+        NodeForm::Text { place, .. } => *place,
+        NodeForm::Item { place, .. } => *place,
+        NodeForm::Apply { place, .. } => *place,
+        NodeForm::List { place, .. } => *place,
+        NodeForm::Comma => place,
+        NodeForm::Semicolon => place,
+        NodeForm::Empty => place,
     }
 }
 
@@ -74,7 +74,7 @@ fn add_copy(
     alloc: Global,
     nodes: &mut Vec<Node>,
     place: &Place,
-    bytes: &Text,
+    bytes: &SyntaxText<'_>,
 ) -> Result<(), AllocError>
     ensures { OnOk result (plans_of nodes.new.items ≡ join (plans_of nodes.old.items)
         (spec.one_plan place.now (spec.text_plan bytes.now))) }
@@ -100,7 +100,7 @@ fn add_string(
     nodes: &mut Vec<Node>,
     form: StringForm,
     place: &Place,
-    bytes: &Text,
+    bytes: &SyntaxText<'_>,
 ) -> Result<(), AllocError>
     ensures faults { OnOk result (work.new.faults.items ≡ work.old.faults.items ++ (spec.string_shape form place.now bytes.now).faults) }
     ensures made { OnOk result
@@ -122,7 +122,7 @@ fn add_macro_text(
     nodes: &mut Vec<Node>,
     text_macro: TextMacro,
     place: &Place,
-    bytes: &Text,
+    bytes: &SyntaxText<'_>,
 ) -> Result<(), AllocError>
     ensures faults { OnOk result
         (work.new.faults.items ≡ work.old.faults.items ++ (spec.macro_text text_macro place.now bytes.now).faults) }
@@ -141,7 +141,7 @@ pub fn add_text(
     nodes: &mut Vec<Node>,
     slot: &Slot,
     place: &Place,
-    bytes: &Text,
+    bytes: &SyntaxText<'_>,
 ) -> Result<(), AllocError>
     ensures faults { OnOk result (work.new.faults.items ≡ work.old.faults.items ++ (spec.text_shape slot.now place.now bytes.now).faults) }
     ensures made { OnOk result
@@ -216,7 +216,7 @@ fn is_type_word(meaning: Meaning) -> bool
     }
 }
 
-fn is_bare_type(word: &Text, has_args: bool, has_body: bool) -> bool
+fn is_bare_type(word: &SyntaxText<'_>, has_args: bool, has_body: bool) -> bool
     ensures { result ≡ spec.is_bare_type word.now has_args has_body }
 {
     !has_args && (!has_body && is_type_word(meaning_of(word.as_bytes(), false)))
@@ -224,28 +224,28 @@ fn is_bare_type(word: &Text, has_args: bool, has_body: bool) -> bool
 
 // Whether this is a word for an object type alone.
 #[tactic(auto, using(crate::proofs::Types::type_rules))]
-fn is_type(raw: &Raw) -> bool
+fn is_type(raw: &SyntaxNode<'_>) -> bool
     ensures { result ≡ at.is_type_at raw.now }
 {
-    match raw {
-        Raw::Item {
+    match &raw.form {
+        NodeForm::Item {
             word,
             args,
             body,
             ..
         } => is_bare_type(word, is_given(args), is_given(body)),
-        Raw::Number { .. } => false,
-        Raw::Text { .. } => false,
-        Raw::Apply { .. } => false,
-        Raw::List { .. } => false,
-        Raw::Comma => false,
-        Raw::Semicolon => false,
-        Raw::Empty => false,
+        NodeForm::Number { .. } => false,
+        NodeForm::Text { .. } => false,
+        NodeForm::Apply { .. } => false,
+        NodeForm::List { .. } => false,
+        NodeForm::Comma => false,
+        NodeForm::Semicolon => false,
+        NodeForm::Empty => false,
     }
 }
 
 #[tactic(auto, using(crate::proofs::Types::types_steps))]
-fn are_types(raws: &[Raw]) -> bool
+fn are_types(raws: &[SyntaxNode<'_>]) -> bool
     ensures { result ≡ at.are_types_at raws.now }
 {
     for raw in raws {
@@ -257,23 +257,23 @@ fn are_types(raws: &[Raw]) -> bool
 }
 
 #[tactic(auto, using(crate::proofs::Types::list_rules))]
-fn is_type_or_list(raw: &Raw) -> bool
+fn is_type_or_list(raw: &SyntaxNode<'_>) -> bool
     ensures { result ≡ at.is_type_or_list_at raw.now }
 {
-    match raw {
-        Raw::List { items, .. } => are_types(items.as_slice()),
-        Raw::Item { .. } => is_type(raw),
-        Raw::Number { .. } => false,
-        Raw::Text { .. } => false,
-        Raw::Apply { .. } => false,
-        Raw::Comma => false,
-        Raw::Semicolon => false,
-        Raw::Empty => false,
+    match &raw.form {
+        NodeForm::List { items, .. } => are_types(items.as_slice()),
+        NodeForm::Item { .. } => is_type(raw),
+        NodeForm::Number { .. } => false,
+        NodeForm::Text { .. } => false,
+        NodeForm::Apply { .. } => false,
+        NodeForm::Comma => false,
+        NodeForm::Semicolon => false,
+        NodeForm::Empty => false,
     }
 }
 
 #[tactic(auto, using(crate::proofs::Types::all_steps))]
-fn are_all_types(raws: &[Raw]) -> bool
+fn are_all_types(raws: &[SyntaxNode<'_>]) -> bool
     ensures { result ≡ at.are_all_types_at raws.now }
 {
     for raw in raws {
@@ -290,7 +290,7 @@ fn types(
     work: &mut Work,
     most: u64,
     place: Place,
-    raws: &[Raw],
+    raws: &[SyntaxNode<'_>],
 ) -> Result<Term, AllocError>
     ensures faults { OnOk result (work.new.faults.items ≡ work.old.faults.items ++ (at.types_at most place raws.now).faults) }
     ensures made { IfOk result (λ term. plan_of term ≡ (at.types_at most place raws.now).made) }
@@ -322,7 +322,7 @@ fn listed(
     work: &mut Work,
     slot: Slot,
     place: Place,
-    raws: &[Raw],
+    raws: &[SyntaxNode<'_>],
 ) -> Result<Term, AllocError>
     ensures faults { OnOk result (work.new.faults.items ≡ work.old.faults.items ++ (at.listed_at slot place raws.now).faults) }
     ensures made { IfOk result (λ term. plan_of term ≡ (at.listed_at slot place raws.now).made) }
@@ -341,7 +341,7 @@ pub fn add_list(
     nodes: &mut Vec<Node>,
     slot: &Slot,
     place: &Place,
-    raws: &[Raw],
+    raws: &[SyntaxNode<'_>],
 ) -> Result<(), AllocError>
     ensures faults { OnOk result (work.new.faults.items ≡ work.old.faults.items ++ (at.listed_at slot.now place.now raws.now).faults) }
     ensures made { OnOk result

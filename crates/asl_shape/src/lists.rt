@@ -6,7 +6,7 @@ ghost use Rattle.asl_shape.specs.AtRaw as at;
 
 use crate::around::Around;
 use crate::item::is_given;
-use asl_parser::Raw;
+use asl_parser::{NodeForm, SyntaxNode};
 use asl_tree::term::{Declaration, Op};
 use asl_words::meaning::{is_default, meaning_of, run_behind_word};
 use asl_words::operator::{Slot, StringForm};
@@ -26,47 +26,47 @@ pub fn within(op: Op, inside: Around) -> Around
 }
 
 /// Whether a member of a list only separates others.
-pub fn is_separator(raw: &Raw) -> bool
+pub fn is_separator(raw: &SyntaxNode<'_>) -> bool
     ensures { result ≡ at.is_separator_at raw.now }
 {
-    match raw {
-        Raw::Comma => true,
-        Raw::Semicolon => true,
-        Raw::Number { .. } => false,
-        Raw::Text { .. } => false,
-        Raw::Item { .. } => false,
-        Raw::Apply { .. } => false,
-        Raw::List { .. } => false,
-        Raw::Empty => false,
+    match &raw.form {
+        NodeForm::Comma => true,
+        NodeForm::Semicolon => true,
+        NodeForm::Number { .. } => false,
+        NodeForm::Text { .. } => false,
+        NodeForm::Item { .. } => false,
+        NodeForm::Apply { .. } => false,
+        NodeForm::List { .. } => false,
+        NodeForm::Empty => false,
     }
 }
 
 /// How many members are no separators.
-pub fn count_members(raws: &[Raw]) -> usize
+pub fn count_members(raws: &[SyntaxNode<'_>]) -> usize
     ensures { result ≡ length (filter (λ raw. not (at.is_separator_at raw)) raws.now) }
 {
     raws.iter().filter(|raw| !is_separator(raw)).count()
 }
 
 /// Whether a member is a comma.
-pub fn is_comma(raw: &Raw) -> bool
+pub fn is_comma(raw: &SyntaxNode<'_>) -> bool
     ensures { result ≡ at.is_comma_at raw.now }
 {
-    match raw {
-        Raw::Comma => true,
-        Raw::Semicolon => false,
-        Raw::Number { .. } => false,
-        Raw::Text { .. } => false,
-        Raw::Item { .. } => false,
-        Raw::Apply { .. } => false,
-        Raw::List { .. } => false,
-        Raw::Empty => false,
+    match &raw.form {
+        NodeForm::Comma => true,
+        NodeForm::Semicolon => false,
+        NodeForm::Number { .. } => false,
+        NodeForm::Text { .. } => false,
+        NodeForm::Item { .. } => false,
+        NodeForm::Apply { .. } => false,
+        NodeForm::List { .. } => false,
+        NodeForm::Empty => false,
     }
 }
 
 // Whether an element is to come behind this member: none where it may not stand.
 #[tactic(auto, using(crate::proofs::Braces::due_rules))]
-fn due_after(due: bool, raw: &Raw) -> Option<bool>
+fn due_after(due: bool, raw: &SyntaxNode<'_>) -> Option<bool>
     ensures { result ≡ at.due_at due raw.now }
 {
     if is_separator(raw) {
@@ -82,7 +82,7 @@ fn due_after(due: bool, raw: &Raw) -> Option<bool>
 
 /// Whether elements stand with commas between them.
 #[tactic(auto, using(crate::proofs::Braces::listed_steps))]
-pub fn is_listed(raws: &[Raw]) -> bool
+pub fn is_listed(raws: &[SyntaxNode<'_>]) -> bool
     ensures { result ≡ at.is_listed_at true raws.now }
 {
     let mut due = true;
@@ -95,24 +95,24 @@ pub fn is_listed(raws: &[Raw]) -> bool
     true
 }
 
-fn is_text(raw: &Raw) -> bool
+fn is_text(raw: &SyntaxNode<'_>) -> bool
     ensures { result ≡ at.is_text_at raw.now }
 {
-    match raw {
-        Raw::Text { .. } => true,
-        Raw::Comma => false,
-        Raw::Semicolon => false,
-        Raw::Number { .. } => false,
-        Raw::Item { .. } => false,
-        Raw::Apply { .. } => false,
-        Raw::List { .. } => false,
-        Raw::Empty => false,
+    match &raw.form {
+        NodeForm::Text { .. } => true,
+        NodeForm::Comma => false,
+        NodeForm::Semicolon => false,
+        NodeForm::Number { .. } => false,
+        NodeForm::Item { .. } => false,
+        NodeForm::Apply { .. } => false,
+        NodeForm::List { .. } => false,
+        NodeForm::Empty => false,
     }
 }
 
 /// How the bytes of a Buffer are read: as one string, or as bytes.
 #[tactic(auto, using(crate::proofs::Braces::byte_rules))]
-pub fn byte_slot(raws: &[Raw]) -> Slot
+pub fn byte_slot(raws: &[SyntaxNode<'_>]) -> Slot
     ensures { result ≡ at.byte_slot_at raws.now }
 {
     let Some((first, rest)) = parts(raws) else {
@@ -133,36 +133,38 @@ pub fn byte_slot(raws: &[Raw]) -> Slot
 
 /// The If that stands directly before what follows a member: how many ElseIfs stand behind it.
 #[tactic(auto, using(crate::proofs::Braces::run_rules))]
-pub fn run_after(run: Option<u8>, raw: &Raw) -> Option<u8>
+pub fn run_after(run: Option<u8>, raw: &SyntaxNode<'_>) -> Option<u8>
     ensures { result ≡ at.run_after_at run raw.now }
 {
-    match raw {
-        Raw::Comma => run,
-        Raw::Semicolon => run,
-        Raw::Item { word, body, .. } => { run_behind_word(run, word.as_bytes(), is_given(body)) }
-        Raw::Number { .. } => None,
-        Raw::Text { .. } => None,
-        Raw::Apply { .. } => None,
-        Raw::List { .. } => None,
-        Raw::Empty => None,
+    match &raw.form {
+        NodeForm::Comma => run,
+        NodeForm::Semicolon => run,
+        NodeForm::Item { word, body, .. } => {
+            run_behind_word(run, word.as_bytes(), is_given(body))
+        }
+        NodeForm::Number { .. } => None,
+        NodeForm::Text { .. } => None,
+        NodeForm::Apply { .. } => None,
+        NodeForm::List { .. } => None,
+        NodeForm::Empty => None,
     }
 }
 
 /// Whether a Default stands before what follows a member of a Switch.
 #[tactic(auto, using(crate::proofs::Braces::default_rules))]
-pub fn default_after(before: bool, raw: &Raw) -> bool
+pub fn default_after(before: bool, raw: &SyntaxNode<'_>) -> bool
     ensures { result ≡ at.default_after_at before raw.now }
 {
-    match raw {
-        Raw::Item { word, body, .. } => {
+    match &raw.form {
+        NodeForm::Item { word, body, .. } => {
             before || is_default(meaning_of(word.as_bytes(), is_given(body)))
         }
-        Raw::Number { .. } => before,
-        Raw::Text { .. } => before,
-        Raw::Apply { .. } => before,
-        Raw::List { .. } => before,
-        Raw::Comma => before,
-        Raw::Semicolon => before,
-        Raw::Empty => before,
+        NodeForm::Number { .. } => before,
+        NodeForm::Text { .. } => before,
+        NodeForm::Apply { .. } => before,
+        NodeForm::List { .. } => before,
+        NodeForm::Comma => before,
+        NodeForm::Semicolon => before,
+        NodeForm::Empty => before,
     }
 }

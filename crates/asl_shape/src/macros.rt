@@ -6,6 +6,7 @@ ghost use Rattle.resource_macros.specs.Identifiers.{eisaid_of, uuid_of};
 
 use crate::nodes::push;
 use crate::work::{Work, refuse};
+use asl_parser::SyntaxText;
 use asl_tree::term::{NamedDescriptor, Node, Op, Special, Term, Word};
 use asl_words::operator::TextMacro;
 use asl_words::texts::is_text;
@@ -38,7 +39,12 @@ pub fn buffer(
 
 // The number of an EISA identifier.
 #[tactic(auto, using(crate::proofs::Terms::nothing_more), unfolding(crate::specs::Plans::plan_of))]
-fn eisa(alloc: Global, work: &mut Work, place: Place, text: &Text) -> Result<Term, AllocError>
+fn eisa(
+    alloc: Global,
+    work: &mut Work,
+    place: Place,
+    text: &SyntaxText<'_>,
+) -> Result<Term, AllocError>
     ensures faults { OnOk result (work.new.faults.items ≡ work.old.faults.items ++ (spec.eisa_shape place (eisaid_of text.now)).faults) }
     ensures made { IfOk result (λ term. plan_of term ≡ (spec.eisa_shape place (eisaid_of text.now)).made) }
 {
@@ -50,7 +56,12 @@ fn eisa(alloc: Global, work: &mut Work, place: Place, text: &Text) -> Result<Ter
 
 // The bytes of a UUID.
 #[tactic(auto, using(crate::proofs::Terms::nothing_more))]
-fn unique(alloc: Global, work: &mut Work, place: Place, text: &Text) -> Result<Term, AllocError>
+fn unique(
+    alloc: Global,
+    work: &mut Work,
+    place: Place,
+    text: &SyntaxText<'_>,
+) -> Result<Term, AllocError>
     ensures faults { OnOk result (work.new.faults.items ≡ work.old.faults.items ++ (spec.uuid_shape place (uuid_of text.now)).faults) }
     ensures made { IfOk result (λ term. plan_of term ≡ (spec.uuid_shape place (uuid_of text.now)).made) }
 {
@@ -67,7 +78,12 @@ fn unique(alloc: Global, work: &mut Work, place: Place, text: &Text) -> Result<T
 
 // A text of 16-bit characters.
 #[tactic(auto, using(crate::proofs::Terms::nothing_more))]
-fn characters(alloc: Global, work: &mut Work, place: Place, text: &Text) -> Result<Term, AllocError>
+fn characters(
+    alloc: Global,
+    work: &mut Work,
+    place: Place,
+    text: &SyntaxText<'_>,
+) -> Result<Term, AllocError>
     ensures faults { OnOk result (work.new.faults.items ≡ work.old.faults.items ++ (spec.unicode_shape place text.now).faults) }
     ensures made { IfOk result (λ term. plan_of term ≡ (spec.unicode_shape place text.now).made) }
 {
@@ -92,7 +108,7 @@ pub fn macro_text(
     work: &mut Work,
     text_macro: TextMacro,
     place: Place,
-    text: &Text,
+    text: &SyntaxText<'_>,
 ) -> Result<Term, AllocError>
     ensures faults { OnOk result (work.new.faults.items ≡ work.old.faults.items ++ (spec.macro_text text_macro place text.now).faults) }
     ensures made { IfOk result (λ term. plan_of term ≡ (spec.macro_text text_macro place text.now).made) }

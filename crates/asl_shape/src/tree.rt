@@ -26,7 +26,7 @@ use crate::resources;
 use crate::settle::{add_missing, arrange, number_in, settle};
 use crate::symbol::{room_for, symbol_of};
 use crate::work::{NOWHERE, Work, evaluate, is_evaluated, tell};
-use asl_parser::{Raw, Raws};
+use asl_parser::{NodeForm, SyntaxNode, SyntaxNodes, SyntaxText};
 use asl_tree::term::{Node, Op, Term};
 use asl_words::meaning::{Reading, is_whole, meaning_of, reading_of, slot_as, takes_role, unfit};
 use asl_words::operator::{Body, FieldWord, Parameter, Slot, TextMacro};
@@ -37,12 +37,10 @@ use asl_words::paths::path_of;
 use asl_words::resources::{descriptor_body, descriptor_parameters};
 use iasl_messages::number::{VALUE_OUT_OF_RANGE, WRONG_ARGUMENT_FORM};
 use iasl_messages::place::Place;
-use iasl_ports::list::Text;
 use resource_layout::descriptor::Descriptor;
 use std::alloc::{AllocError, Global};
 
-// A part of a source where it is read so, but for the range of a constant: a node behind the others, at its place, or at this one where
-// it has none.
+// A part where it is read so, but for the range of a constant: a node behind the others, at its place, or at this one where it has none.
 #[cycle(shape)]
 #[tactic(auto, using(crate::proofs::Shapes::size_rules, crate::proofs::Shapes::bare_rules))]
 fn add_bare(
@@ -52,18 +50,24 @@ fn add_bare(
     slot: &Slot,
     inside: &Around,
     place: &Place,
-    raw: &Raw,
+    raw: &SyntaxNode<'_>,
 ) -> Result<(), AllocError>
     ensures faults { OnOk result (work.new.faults.items ≡ work.old.faults.items ++ (at.bare_at slot.now inside.now raw.now).faults) }
-    ensures made { OnOk result
-        (plans_of nodes.new.items ≡ join (plans_of nodes.old.items)
+    ensures made { OnOk result (plans_of nodes.new.items ≡ join (plans_of nodes.old.items)
         (at.one_at place.now raw.now (at.bare_at slot.now inside.now raw.now).made)) }
 {
-    match raw {
-        Raw::Number { place, value } => add_number(alloc, work, nodes, slot, place, *value),
-        Raw::Text { place, text } => add_text(alloc, work, nodes, slot, place, text),
-        Raw::List { place, items } => add_list(alloc, work, nodes, slot, place, items.as_slice()),
-        Raw::Apply { place, op, args } => add_symbol(
+    match &raw.form {
+        NodeForm::Number { place, value } => add_number(alloc, work, nodes, slot, place, *value),
+        NodeForm::Text { place, text } => add_text(alloc, work, nodes, slot, place, text),
+        NodeForm::List { place, items } => add_list(
+            alloc,
+            work,
+            nodes,
+            slot,
+            place,
+            items.as_slice(),
+        ),
+        NodeForm::Apply { place, op, args } => add_symbol(
             alloc,
             work,
             nodes,
@@ -73,15 +77,15 @@ fn add_bare(
             place,
             args.as_slice(),
         ),
-        Raw::Item {
+        NodeForm::Item {
             place,
             word,
             args,
             body,
         } => add_item(alloc, work, nodes, slot, inside, place, word, args, body),
-        Raw::Comma => push(nodes, *place, Term::Omitted),
-        Raw::Semicolon => push(nodes, *place, Term::Omitted),
-        Raw::Empty => push(nodes, *place, Term::Omitted),
+        NodeForm::Comma => push(nodes, *place, Term::Omitted),
+        NodeForm::Semicolon => push(nodes, *place, Term::Omitted),
+        NodeForm::Empty => push(nodes, *place, Term::Omitted),
     }
 }
 
@@ -95,11 +99,10 @@ fn add(
     slot: &Slot,
     inside: &Around,
     place: &Place,
-    raw: &Raw,
+    raw: &SyntaxNode<'_>,
 ) -> Result<(), AllocError>
     ensures faults { OnOk result (work.new.faults.items ≡ work.old.faults.items ++ (at.shape_at slot.now inside.now raw.now).faults) }
-    ensures made { OnOk result
-        (plans_of nodes.new.items ≡ join (plans_of nodes.old.items)
+    ensures made { OnOk result (plans_of nodes.new.items ≡ join (plans_of nodes.old.items)
         (at.one_at place.now raw.now (at.shape_at slot.now inside.now raw.now).made)) }
 {
     // Most slots ask for no more.
@@ -125,7 +128,7 @@ fn add_member(
     nodes: &mut Vec<Node>,
     slot: &Slot,
     inside: &Around,
-    raw: &Raw,
+    raw: &SyntaxNode<'_>,
 ) -> Result<(), AllocError>
     ensures faults { OnOk result (work.new.faults.items ≡ work.old.faults.items ++ (at.member_at slot.now inside.now raw.now).faults) }
     ensures made { OnOk result (plans_of nodes.new.items ≡ join (plans_of nodes.old.items)
@@ -145,7 +148,7 @@ fn operands(
     work: &mut Work,
     nodes: &mut Vec<Node>,
     inside: &Around,
-    args: &[Raw],
+    args: &[SyntaxNode<'_>],
 ) -> Result<(), AllocError>
     ensures faults { OnOk result
         (work.new.faults.items ≡ work.old.faults.items ++ (at.operands_at slots.Expression inside.now args.now).faults) }
@@ -168,14 +171,13 @@ fn add_item(
     slot: &Slot,
     inside: &Around,
     place: &Place,
-    word: &Text,
-    args: &Option<Raws>,
-    body: &Option<Raws>,
+    word: &SyntaxText<'_>,
+    args: &Option<SyntaxNodes<'_>>,
+    body: &Option<SyntaxNodes<'_>>,
 ) -> Result<(), AllocError>
     ensures faults { OnOk result
         (work.new.faults.items ≡ work.old.faults.items ++ (at.item_at slot.now inside.now place.now word.now args.now body.now).faults) }
-    ensures made { OnOk result
-        (plans_of nodes.new.items ≡ join (plans_of nodes.old.items)
+    ensures made { OnOk result (plans_of nodes.new.items ≡ join (plans_of nodes.old.items)
         (spec.one_plan place.now (at.item_at slot.now inside.now place.now word.now args.now body.now).made)) }
 {
     let meaning = meaning_of(word.as_bytes(), is_given(body));
@@ -207,15 +209,13 @@ fn add_reading(
     reading: Reading,
     inside: &Around,
     place: &Place,
-    word: &Text,
-    args: &Option<Raws>,
-    body: &Option<Raws>,
+    word: &SyntaxText<'_>,
+    args: &Option<SyntaxNodes<'_>>,
+    body: &Option<SyntaxNodes<'_>>,
 ) -> Result<(), AllocError>
-    ensures faults { OnOk result
-        (work.new.faults.items ≡ work.old.faults.items
+    ensures faults { OnOk result (work.new.faults.items ≡ work.old.faults.items
         ++ (at.read_at slot.now place.now word.now reading inside.now args.now body.now).faults) }
-    ensures made { OnOk result
-        (plans_of nodes.new.items ≡ join (plans_of nodes.old.items)
+    ensures made { OnOk result (plans_of nodes.new.items ≡ join (plans_of nodes.old.items)
         (spec.one_plan place.now (at.read_at slot.now place.now word.now reading inside.now args.now body.now).made)) }
 {
     match reading {
@@ -255,14 +255,12 @@ fn add_call(
     nodes: &mut Vec<Node>,
     inside: &Around,
     place: &Place,
-    word: &Text,
-    args: &Option<Raws>,
+    word: &SyntaxText<'_>,
+    args: &Option<SyntaxNodes<'_>>,
 ) -> Result<(), AllocError>
-    ensures faults { OnOk result
-        (work.new.faults.items ≡ work.old.faults.items
+    ensures faults { OnOk result (work.new.faults.items ≡ work.old.faults.items
         ++ (spec.call_shape place.now (Paths.path_of word.now) (at.call_at inside.now args.now)).faults) }
-    ensures made { OnOk result
-        (plans_of nodes.new.items ≡ join (plans_of nodes.old.items)
+    ensures made { OnOk result (plans_of nodes.new.items ≡ join (plans_of nodes.old.items)
         (spec.one_plan place.now (spec.call_shape place.now (Paths.path_of word.now) (at.call_at inside.now args.now)).made)) }
 {
     let Some(path) = path_of(alloc, word.as_bytes())? else {
@@ -284,12 +282,11 @@ fn add_element(
     word: FieldWord,
     inside: &Around,
     place: &Place,
-    args: &Option<Raws>,
+    args: &Option<SyntaxNodes<'_>>,
 ) -> Result<(), AllocError>
     ensures faults { OnOk result
         (work.new.faults.items ≡ work.old.faults.items ++ (at.element_at word place.now inside.now args.now).faults) }
-    ensures made { OnOk result
-        (plans_of nodes.new.items ≡ join (plans_of nodes.old.items)
+    ensures made { OnOk result (plans_of nodes.new.items ≡ join (plans_of nodes.old.items)
         (spec.one_plan place.now (at.element_at word place.now inside.now args.now).made)) }
 {
     let parameters = element_parameters(word);
@@ -311,11 +308,10 @@ fn add_macro(
     of: TextMacro,
     inside: &Around,
     place: &Place,
-    args: &Option<Raws>,
+    args: &Option<SyntaxNodes<'_>>,
 ) -> Result<(), AllocError>
     ensures faults { OnOk result (work.new.faults.items ≡ work.old.faults.items ++ (at.macro_at of place.now inside.now args.now).faults) }
-    ensures made { OnOk result
-        (plans_of nodes.new.items ≡ join (plans_of nodes.old.items)
+    ensures made { OnOk result (plans_of nodes.new.items ≡ join (plans_of nodes.old.items)
         (spec.one_plan place.now (at.macro_at of place.now inside.now args.now).made)) }
 {
     let parameters = macro_parameters(of);
@@ -335,11 +331,10 @@ fn add_template(
     nodes: &mut Vec<Node>,
     inside: &Around,
     place: &Place,
-    body: &Option<Raws>,
+    body: &Option<SyntaxNodes<'_>>,
 ) -> Result<(), AllocError>
     ensures faults { OnOk result (work.new.faults.items ≡ work.old.faults.items ++ (at.template_at place.now inside.now body.now).faults) }
-    ensures made { OnOk result
-        (plans_of nodes.new.items ≡ join (plans_of nodes.old.items)
+    ensures made { OnOk result (plans_of nodes.new.items ≡ join (plans_of nodes.old.items)
         (spec.one_plan place.now (at.template_at place.now inside.now body.now).made)) }
 {
     let braces = Body::Descriptors { chosen: false };
@@ -360,13 +355,12 @@ fn add_descriptor(
     of: Descriptor,
     inside: &Around,
     place: &Place,
-    args: &Option<Raws>,
-    body: &Option<Raws>,
+    args: &Option<SyntaxNodes<'_>>,
+    body: &Option<SyntaxNodes<'_>>,
 ) -> Result<(), AllocError>
     ensures faults { OnOk result
         (work.new.faults.items ≡ work.old.faults.items ++ (at.descriptor_at of place.now inside.now args.now body.now).faults) }
-    ensures made { OnOk result
-        (plans_of nodes.new.items ≡ join (plans_of nodes.old.items)
+    ensures made { OnOk result (plans_of nodes.new.items ≡ join (plans_of nodes.old.items)
         (spec.one_plan place.now (at.descriptor_at of place.now inside.now args.now body.now).made)) }
 {
     let parameters = descriptor_parameters(of);
@@ -391,14 +385,11 @@ fn add_symbol(
     op: Op,
     inside: &Around,
     place: &Place,
-    args: &[Raw],
+    args: &[SyntaxNode<'_>],
 ) -> Result<(), AllocError>
-    ensures faults { OnOk result
-        (work.new.faults.items ≡ work.old.faults.items
-        ++ (spec.symbol_shape inside.now.width slot.now place.now op
+    ensures faults { OnOk result (work.new.faults.items ≡ work.old.faults.items ++ (spec.symbol_shape inside.now.width slot.now place.now op
         (at.arguments_in_at (table.parameters_of op) place.now inside.now args.now)).faults) }
-    ensures made { OnOk result
-        (plans_of nodes.new.items ≡ join (plans_of nodes.old.items)
+    ensures made { OnOk result (plans_of nodes.new.items ≡ join (plans_of nodes.old.items)
         (spec.one_plan place.now (spec.symbol_shape inside.now.width slot.now place.now op
         (at.arguments_in_at (table.parameters_of op) place.now inside.now args.now)).made)) }
 {
@@ -430,16 +421,13 @@ fn add_form(
     op: Op,
     inside: &Around,
     place: &Place,
-    args: &[Raw],
-    body: &Option<Raws>,
+    args: &[SyntaxNode<'_>],
+    body: &Option<SyntaxNodes<'_>>,
 ) -> Result<(), AllocError>
-    ensures faults { OnOk result
-        (work.new.faults.items ≡ work.old.faults.items
-        ++ (spec.form_shape inside.now.width op place.now
+    ensures faults { OnOk result (work.new.faults.items ≡ work.old.faults.items ++ (spec.form_shape inside.now.width op place.now
         (at.arguments_in_at (table.parameters_as op slot.now) place.now inside.now args.now)
         (at.contents_at (table.body_as op slot.now) (spec.within op inside.now) place.now body.now)).faults) }
-    ensures made { OnOk result
-        (plans_of nodes.new.items ≡ join (plans_of nodes.old.items)
+    ensures made { OnOk result (plans_of nodes.new.items ≡ join (plans_of nodes.old.items)
         (spec.one_plan place.now (spec.form_shape inside.now.width op place.now
         (at.arguments_in_at (table.parameters_as op slot.now) place.now inside.now args.now)
         (at.contents_at (table.body_as op slot.now) (spec.within op inside.now) place.now body.now)).made)) }
@@ -478,14 +466,12 @@ fn add_argument(
     parameter: &Parameter,
     inside: &Around,
     place: &Place,
-    args: &[Raw],
+    args: &[SyntaxNode<'_>],
     i: usize,
 ) -> Result<(), AllocError>
-    ensures faults { OnOk result
-        (work.new.faults.items ≡ work.old.faults.items
+    ensures faults { OnOk result (work.new.faults.items ≡ work.old.faults.items
         ++ (at.argument_at parameter.now place.now inside.now (slice_get args.now i)).faults) }
-    ensures made { OnOk result
-        (plans_of nodes.new.items ≡ join (plans_of nodes.old.items)
+    ensures made { OnOk result (plans_of nodes.new.items ≡ join (plans_of nodes.old.items)
         (at.argument_at parameter.now place.now inside.now (slice_get args.now i)).made) }
 {
     match args.get(i) {
@@ -512,12 +498,11 @@ pub fn arguments(
     parameters: &[Parameter],
     inside: &Around,
     place: &Place,
-    args: &[Raw],
+    args: &[SyntaxNode<'_>],
 ) -> Result<(), AllocError>
     ensures faults { OnOk result
         (work.new.faults.items ≡ work.old.faults.items ++ (at.arguments_in_at parameters.now place.now inside.now args.now).faults) }
-    ensures made { OnOk result
-        (plans_of nodes.new.items ≡ join (plans_of nodes.old.items)
+    ensures made { OnOk result (plans_of nodes.new.items ≡ join (plans_of nodes.old.items)
         (at.arguments_in_at parameters.now place.now inside.now args.now).made) }
 {
     for i in 0..parameters.len() {
@@ -537,7 +522,7 @@ fn contents(
     body: Body,
     inside: &Around,
     place: &Place,
-    raws: &Option<Raws>,
+    raws: &Option<SyntaxNodes<'_>>,
 ) -> Result<(), AllocError>
     ensures faults { OnOk result
         (work.new.faults.items ≡ work.old.faults.items ++ (at.contents_at body inside.now place.now raws.now).faults) }
@@ -561,7 +546,7 @@ fn contents_of(
     body: Body,
     inside: &Around,
     place: &Place,
-    raws: &[Raw],
+    raws: &[SyntaxNode<'_>],
 ) -> Result<(), AllocError>
     ensures faults { OnOk result
         (work.new.faults.items ≡ work.old.faults.items ++ (at.contents_at body inside.now place.now (Some raws.now)).faults) }
@@ -598,14 +583,12 @@ fn field_list(
     nodes: &mut Vec<Node>,
     inside: &Around,
     place: &Place,
-    raws: &[Raw],
+    raws: &[SyntaxNode<'_>],
 ) -> Result<(), AllocError>
-    ensures faults { OnOk result
-        (work.new.faults.items ≡ work.old.faults.items
+    ensures faults { OnOk result (work.new.faults.items ≡ work.old.faults.items
         ++ (spec.list_shape place.now (at.is_field_list_at spec.begin raws.now)
         (at.elements_at spec.begin None inside.now raws.now)).faults) }
-    ensures made { OnOk result
-        (plans_of nodes.new.items ≡ join (plans_of nodes.old.items)
+    ensures made { OnOk result (plans_of nodes.new.items ≡ join (plans_of nodes.old.items)
         (spec.list_shape place.now (at.is_field_list_at spec.begin raws.now) (at.elements_at spec.begin None inside.now raws.now)).made) }
 {
     if !is_field_list(raws) {
@@ -621,7 +604,7 @@ fn field_elements(
     work: &mut Work,
     nodes: &mut Vec<Node>,
     inside: &Around,
-    raws: &[Raw],
+    raws: &[SyntaxNode<'_>],
 ) -> Result<(), AllocError>
     ensures faults { OnOk result
         (work.new.faults.items ≡ work.old.faults.items ++ (at.elements_at spec.begin None inside.now raws.now).faults) }
@@ -647,7 +630,7 @@ fn add_part(
     due: Due,
     unit: Option<UnitName>,
     inside: &Around,
-    raw: &Raw,
+    raw: &SyntaxNode<'_>,
 ) -> Result<Option<UnitName>, AllocError>
     ensures faults { OnOk result (work.new.faults.items ≡ work.old.faults.items ++ (at.part_at due unit inside.now raw.now).faults) }
     ensures made { OnOk result (plans_of nodes.new.items ≡ join (plans_of nodes.old.items) (at.part_at due unit inside.now raw.now).made) }
@@ -676,7 +659,7 @@ fn read_term(
     nodes: &mut Vec<Node>,
     slot: &Slot,
     inside: &Around,
-    raw: &Raw,
+    raw: &SyntaxNode<'_>,
 ) -> Result<Term, AllocError>
     ensures faults { OnOk result (work.new.faults.items ≡ work.old.faults.items ++ (at.shape_at slot.now inside.now raw.now).faults) }
     ensures nodes { OnOk result (plans_of nodes.new.items ≡ plans_of nodes.old.items) }
@@ -694,7 +677,7 @@ fn begin_element(
     work: &mut Work,
     nodes: &mut Vec<Node>,
     inside: &Around,
-    raw: &Raw,
+    raw: &SyntaxNode<'_>,
 ) -> Result<Option<UnitName>, AllocError>
     ensures faults { OnOk result (work.new.faults.items ≡ work.old.faults.items ++ (at.begin_at inside.now raw.now).faults) }
     ensures made { OnOk result (plans_of nodes.new.items ≡ join (plans_of nodes.old.items) (at.begin_at inside.now raw.now).made) }
@@ -718,7 +701,7 @@ fn add_bits(
     nodes: &mut Vec<Node>,
     unit: Option<UnitName>,
     inside: &Around,
-    raw: &Raw,
+    raw: &SyntaxNode<'_>,
 ) -> Result<(), AllocError>
     ensures faults { OnOk result (work.new.faults.items ≡ work.old.faults.items ++ (at.bits_at unit inside.now raw.now).faults) }
     ensures made { OnOk result (plans_of nodes.new.items ≡ join (plans_of nodes.old.items) (at.bits_at unit inside.now raw.now).made) }
@@ -737,13 +720,11 @@ fn elements(
     slot: &Slot,
     inside: &Around,
     place: &Place,
-    raws: &[Raw],
+    raws: &[SyntaxNode<'_>],
 ) -> Result<(), AllocError>
-    ensures faults { OnOk result
-        (work.new.faults.items ≡ work.old.faults.items
+    ensures faults { OnOk result (work.new.faults.items ≡ work.old.faults.items
         ++ (spec.list_shape place.now (at.is_listed_at true raws.now) (at.members_at slot.now inside.now raws.now)).faults) }
-    ensures made { OnOk result
-        (plans_of nodes.new.items ≡ join (plans_of nodes.old.items)
+    ensures made { OnOk result (plans_of nodes.new.items ≡ join (plans_of nodes.old.items)
         (spec.list_shape place.now (at.is_listed_at true raws.now) (at.members_at slot.now inside.now raws.now)).made) }
 {
     if !is_listed(raws) {
@@ -762,7 +743,7 @@ fn members(
     nodes: &mut Vec<Node>,
     slot: &Slot,
     inside: &Around,
-    raws: &[Raw],
+    raws: &[SyntaxNode<'_>],
 ) -> Result<(), AllocError>
     ensures faults { OnOk result (work.new.faults.items ≡ work.old.faults.items ++ (at.members_at slot.now inside.now raws.now).faults) }
     ensures made { OnOk result (plans_of nodes.new.items ≡ join (plans_of nodes.old.items)
@@ -781,7 +762,7 @@ pub fn terms(
     work: &mut Work,
     nodes: &mut Vec<Node>,
     inside: &Around,
-    raws: &[Raw],
+    raws: &[SyntaxNode<'_>],
 ) -> Result<(), AllocError>
     ensures faults { OnOk result (work.new.faults.items ≡ work.old.faults.items ++ (at.terms_at inside.now None raws.now).faults) }
     ensures made { OnOk result (plans_of nodes.new.items ≡ join (plans_of nodes.old.items) (at.terms_at inside.now None raws.now).made) }
@@ -803,7 +784,7 @@ fn cases(
     work: &mut Work,
     nodes: &mut Vec<Node>,
     inside: &Around,
-    raws: &[Raw],
+    raws: &[SyntaxNode<'_>],
 ) -> Result<(), AllocError>
     ensures faults { OnOk result (work.new.faults.items ≡ work.old.faults.items ++ (at.cases_at inside.now false raws.now).faults) }
     ensures made { OnOk result (plans_of nodes.new.items ≡ join (plans_of nodes.old.items) (at.cases_at inside.now false raws.now).made) }

@@ -12,7 +12,7 @@ use crate::settle::number_at;
 use crate::tree::{arguments, terms};
 use crate::work::Work;
 use acpi_values::width::Width;
-use asl_parser::{Raw, RawUnit, Raws};
+use asl_parser::{NodeForm, RawUnit, SyntaxNode, SyntaxNodes, SyntaxText};
 use asl_tree::program::{Block, Blocks, Program};
 use asl_tree::term::{Node, Term};
 use asl_words::parameters::block_parameters;
@@ -112,7 +112,7 @@ fn block_terms(
     work: &mut Work,
     list: &mut Vec<Node>,
     args: &[Node],
-    body: &[Raw],
+    body: &[SyntaxNode<'_>],
 ) -> Result<(), AllocError>
     ensures faults { OnOk result (work.new.faults.items ≡ work.old.faults.items ++ (spec.terms_in (plans_of args.now) body.now).faults) }
     ensures made { OnOk result
@@ -130,8 +130,8 @@ fn inside(
     nodes: &mut Vec<Node>,
     list: &mut Vec<Node>,
     place: Place,
-    args: &[Raw],
-    body: &[Raw],
+    args: &[SyntaxNode<'_>],
+    body: &[SyntaxNode<'_>],
 ) -> Result<(), AllocError>
     requires { nodes.now.items ≡ [] }
     ensures faults { OnOk result (work.new.faults.items ≡ work.old.faults.items ++ spec.errors_in place args.now body.now) }
@@ -154,7 +154,12 @@ fn inside(
 
 // A block whose arguments and braces are there.
 #[tactic(auto, using(crate::proofs::Units::block_rules))]
-fn shaped(alloc: Global, place: Place, args: &[Raw], body: &[Raw]) -> Result<Block, Stage>
+fn shaped(
+    alloc: Global,
+    place: Place,
+    args: &[SyntaxNode<'_>],
+    body: &[SyntaxNode<'_>],
+) -> Result<Block, Stage>
     ensures formed { IfOk result (λ block. (spec.errors_in place args.now body.now ≡ [])
         × spec.IsBlock place (spec.args_in place args.now).made (spec.terms_in (spec.args_in place args.now).made body.now).made block) }
     ensures refused { IfErr result (λ stage. at.Refuses stage (spec.errors_in place args.now body.now)) }
@@ -183,8 +188,8 @@ fn shaped(alloc: Global, place: Place, args: &[Raw], body: &[Raw]) -> Result<Blo
 fn block(
     alloc: Global,
     place: Place,
-    args: &Option<Raws>,
-    body: &Option<Raws>,
+    args: &Option<SyntaxNodes<'_>>,
+    body: &Option<SyntaxNodes<'_>>,
 ) -> Result<Block, Stage>
     ensures formed { IfOk result (λ block. (spec.block_errors_at place args.now body.now ≡ [])
         × spec.IsBlock place (spec.args_in place (at.inside_at args.now)).made
@@ -198,7 +203,7 @@ fn block(
     shaped(alloc, place, inside_of(args), inside_of(body))
 }
 
-fn is_block_word(word: &Text) -> bool
+fn is_block_word(word: &SyntaxText<'_>) -> bool
     ensures { result ≡ spec.is_block_word word.now }
 {
     word.as_bytes() == b"DEFINITIONBLOCK".as_slice()
@@ -206,29 +211,29 @@ fn is_block_word(word: &Text) -> bool
 
 // Whether an item is a block.
 #[tactic(auto, using(crate::proofs::Units::block_items))]
-fn is_block(raw: &Raw) -> bool
+fn is_block(raw: &SyntaxNode<'_>) -> bool
     ensures { result ≡ spec.is_block_at raw.now }
 {
-    match raw {
-        Raw::Item { word, .. } => is_block_word(word),
-        Raw::Number { .. } => false,
-        Raw::Text { .. } => false,
-        Raw::Apply { .. } => false,
-        Raw::List { .. } => false,
-        Raw::Comma => false,
-        Raw::Semicolon => false,
-        Raw::Empty => false,
+    match &raw.form {
+        NodeForm::Item { word, .. } => is_block_word(word),
+        NodeForm::Number { .. } => false,
+        NodeForm::Text { .. } => false,
+        NodeForm::Apply { .. } => false,
+        NodeForm::List { .. } => false,
+        NodeForm::Comma => false,
+        NodeForm::Semicolon => false,
+        NodeForm::Empty => false,
     }
 }
 
 // The block that an item is.
-fn block_in(alloc: Global, raw: &Raw) -> Result<Block, Stage>
+fn block_in(alloc: Global, raw: &SyntaxNode<'_>) -> Result<Block, Stage>
     requires { spec.is_block_at raw.now ≡ true }
     ensures formed { IfOk result (λ block. (spec.errors_at (spec.alone raw.now) ≡ []) × spec.IsBlockOf (spec.alone raw.now) block) }
     ensures refused { IfErr result (λ stage. at.Refuses stage (spec.errors_at (spec.alone raw.now))) }
 {
-    match raw {
-        Raw::Item {
+    match &raw.form {
+        NodeForm::Item {
             place,
             args,
             body,
@@ -244,7 +249,7 @@ fn add_item(
     alloc: Global,
     faults: &mut Vec<Message>,
     blocks: &mut Blocks,
-    raw: &Raw,
+    raw: &SyntaxNode<'_>,
 ) -> Result<(), AllocError>
     ensures faults { OnOk result (faults.new.items ≡ faults.old.items ++ spec.errors_in_block raw.now) }
     ensures blocks { OnOk result (spec.is_block_at raw.now ≡ true → spec.errors_in_block raw.now ≡ [] →
@@ -261,7 +266,11 @@ fn add_item(
 }
 
 // The blocks among some items, or the errors of these.
-fn blocks_of(alloc: Global, faults: &mut Vec<Message>, raws: &[Raw]) -> Result<Blocks, AllocError>
+fn blocks_of(
+    alloc: Global,
+    faults: &mut Vec<Message>,
+    raws: &[SyntaxNode<'_>],
+) -> Result<Blocks, AllocError>
     ensures faults { OnOk result (faults.new.items ≡ faults.old.items ++ spec.errors_in_blocks raws.now) }
     ensures blocks { IfOk result (λ blocks. spec.errors_in_blocks raws.now ≡ [] → spec.stray_errors raws.now ≡ [] →
         spec.AreBlocksOf raws.now blocks) }
@@ -285,7 +294,11 @@ fn tell_stray(alloc: Global, faults: &mut Vec<Message>, place: Place) -> Result<
 }
 
 // Tells of the first item that is no block.
-fn add_stray(alloc: Global, faults: &mut Vec<Message>, raws: &[Raw]) -> Result<(), AllocError>
+fn add_stray(
+    alloc: Global,
+    faults: &mut Vec<Message>,
+    raws: &[SyntaxNode<'_>],
+) -> Result<(), AllocError>
     ensures { OnOk result (faults.new.items ≡ faults.old.items ++ spec.stray_errors raws.now) }
 {
     for raw in raws {
@@ -301,7 +314,7 @@ fn add_stray(alloc: Global, faults: &mut Vec<Message>, raws: &[Raw]) -> Result<(
 fn source_blocks(
     alloc: Global,
     faults: &mut Vec<Message>,
-    raws: &[Raw],
+    raws: &[SyntaxNode<'_>],
 ) -> Result<Blocks, AllocError>
     requires { faults.old.items ≡ [] }
     ensures faults { OnOk result (faults.new.items ≡ spec.source_errors raws.now) }
@@ -322,7 +335,7 @@ fn source_blocks(
 /// 6021 and 6023, for any other argument the first of 6022 and 6024, and nothing inside of either; and behind them 6028 at the first item
 /// that is no block, or at 1:1 where there is no item. What is written with a symbol stands at the symbol. A want of memory is
 /// `Stage::Memory`.
-pub fn shape(alloc: Global, raw: &RawUnit) -> Result<Program, Stage>
+pub fn shape(alloc: Global, raw: &RawUnit<'_>) -> Result<Program, Stage>
     ensures formed { IfOk result (spec.Forms raw.now.items) }
     ensures refused { IfErr result (λ stage. at.Refuses stage (spec.source_errors raw.now.items)) }
 {

@@ -1,11 +1,11 @@
 -- The items of a source that are blocks, each read alone.
-use Rattle.std.proofs.Common.{◌≡◌, length, reverse, Bool, true, false, List, [], ◌∷◌, ◌++◌, append_assoc, Result, Ok, Err, refl, sym, ap, ◌∙◌, subst}
+use Rattle.std.proofs.Common.{◌≡◌, ℕ, suc, ◌+◌, ◌<◌, ◌≤◌, length, reverse, take, drop, get_or, drop-cons, add-one, Bool, true, false, List, [], ◌∷◌, ◌++◌, append_assoc, Result, Ok, Err, refl, sym, ap, ◌∙◌, subst}
 use Rattle.std.specs.Prelude.{IfOk, Option, nat_le, if◌then◌else◌, ⊤}
 use Rattle.std.specs.Option.{option_to_list}
 use Rattle.std.specs.Result.{result_ok}
 use Rattle.std.specs.Str.{IsAscii}
 use Rattle.std.specs.declared.alloc.AllocError.{AllocError}
-use Rattle.std.proofs.lemmas.List.{append-nil, reverse-append}
+use Rattle.std.proofs.lemmas.List.{append-nil, reverse-append, take_more, take_all}
 use Rattle.iasl_messages.specs.declared.message.Message.{Message}
 use Rattle.iasl_messages.specs.declared.place.Line.{Line}
 use Rattle.iasl_messages.specs.declared.place.Place.{Place}
@@ -18,6 +18,8 @@ use Rattle.program_shapes.specs.Kept.{IsKeptSource, AreKeptAlone}
 use Rattle.program_shapes.specs.Sources.{fields_in}
 use Rattle.program_shapes.proofs.OwnNames.{own_is_ascii}
 use Rattle.asl_tables.specs.declared.compile.Style.{Style}
+use Rattle.asl_tables.specs.declared.compile.ReadBlock.{ReadBlock}
+use Rattle.asl_tables.specs.Reads.{IsReadOf, AreReadOf, IsRightRead, AreRightReads}
 use Rattle.block_outcomes.specs.declared.outcome.Class.TheVariants as class
 use Rattle.block_outcomes.specs.declared.outcome.Compiled.{Compiled}
 use Rattle.block_outcomes.specs.declared.outcome.Compiled.TheVariants.{Made}
@@ -39,69 +41,114 @@ noted_more : (raws : List Raw) (r : Raw) → all_noted (raws ++ r ∷ []) ≡ al
 noted_more [] r = append-nil (noted_in (alone r))
 noted_more (x ∷ xs) r = ap (λ ms. noted_in (alone x) ++ ms) (noted_more xs r) ∙ sym (append_assoc (noted_in (alone x)) (all_noted xs) (noted_in (alone r)))
 
--- Some items are compiled, and sorted are their outcomes. The others are left, the next of them last, with their blocks in the same order.
-pub record AreCompiled (style : Style) (lines : List Line) (all rest : List Raw) (left : List Block) (outcomes : Sorted) (told : List Message) : Type 0 where
-  pub done : List Raw
-  pub are : all ≡ done ++ reverse rest
-  pub blocks : AreBlocksOf (reverse rest) (reverse left)
-  pub kept : AreKeptAlone (reverse rest)
-  pub right : AreRight (reverse rest)
-  pub sorted : AreSorted (outcomes_in style lines done) outcomes
-  pub notes : told ≡ all_noted done
+-- ---- what is read of items
+
+read_more : (items : List Raw) (its : List ReadBlock) (r : Raw) (it : ReadBlock) → AreReadOf items its → IsReadOf r it → AreReadOf (items ++ r ∷ []) (its ++ it ∷ [])
+read_more [] [] r it h k = (k, tt)
+read_more [] (y ∷ ys) r it h k = absurd h
+read_more (x ∷ xs) [] r it h k = absurd h
+read_more (x ∷ xs) (y ∷ ys) r it h k = (h.0, read_more xs ys r it h.1 k)
+
+-- The first so many items are read. The blocks of the others are left, the next of them last.
+pub record AreRead (items : List Raw) (i : ℕ) (left : List Block) (its : List ReadBlock) : Type 0 where
+  pub done : AreReadOf (take i items) its
+  pub rest : AreBlocksOf (drop i items) (reverse left)
 
 reverse_twice : {A : Type 0} (xs : List A) → reverse (reverse xs) ≡ xs
 reverse_twice [] = refl
 reverse_twice (x ∷ xs) = ap reverse (reverse-append (x ∷ []) xs) ∙ reverse-append (reverse xs) (x ∷ []) ∙ ap (λ ys. x ∷ ys) (reverse_twice xs)
 
-pub none_compiled : (style : Style) (lines : List Line) (raws rest : List Raw) (blocks left : List Block) (sorted : Sorted) (notes : List Message) → rest ≡ reverse raws → left ≡ reverse blocks → AreBlocksOf raws blocks → AreKeptAlone raws → AreRight raws → AreSorted [] sorted → notes ≡ []
-    → AreCompiled style lines raws rest left sorted notes
-none_compiled style lines raws rest blocks left sorted notes turned e b k r s n =
-    let same : raws ≡ reverse rest = sym (ap reverse turned ∙ reverse_twice raws) in
-    record {
-      done = [];
-      are = same;
-      blocks = subst (λ xs. AreBlocksOf xs (reverse left)) same (subst (AreBlocksOf raws) (sym (ap reverse e ∙ reverse_twice blocks)) b);
-      kept = subst AreKeptAlone same k;
-      right = subst AreRight same r;
-      sorted = s;
-      notes = n;
-    }
+pub none_read : (items : List Raw) (blocks left : List Block) (its : List ReadBlock) → left ≡ reverse blocks → its ≡ [] → AreBlocksOf items blocks → AreRead items 0 left its
+none_read items blocks left its turned none h = record {
+  done = subst (AreReadOf []) (sym none) tt;
+  rest = subst (AreBlocksOf items) (sym (ap reverse turned ∙ reverse_twice blocks)) h;
+}
 
 -- a block that is taken from the end of some
 pub popped_block : (left new : List Block) (popped : Option Block) (r : Result Block AllocError) (block : Block) → left ≡ new ++ option_to_list popped → popped ≡ result_ok r → r ≡ Ok block → left ≡ new ++ block ∷ []
 popped_block left new popped r block e taken ok = e ∙ ap (λ o. new ++ option_to_list o) (taken ∙ ap result_ok ok)
 
-module _ (rest others : List Raw) (r : Raw) (popped : rest ≡ others ++ r ∷ []) where
-  from_next : reverse rest ≡ r ∷ reverse others
-  from_next = ap reverse popped ∙ reverse-append others (r ∷ [])
+pub next_block : (items : List Raw) (i : ℕ) (d : Raw) (left new : List Block) (block : Block) → i < length items → left ≡ new ++ block ∷ [] → AreBlocksOf (drop i items) (reverse left) → IsBlockOf (alone (get_or items i d)) block × AreBlocksOf (drop (suc i) items) (reverse new)
+next_block items i d left new block lt e h =
+    subst (AreBlocksOf (get_or items i d ∷ drop (suc i) items)) (ap reverse e ∙ reverse-append new (block ∷ []))
+    (subst (λ xs. AreBlocksOf xs (reverse left)) (drop-cons items i d lt) h)
 
-  -- what is known of the next item
-  pub next_kept : AreKeptAlone (reverse rest) → IsKeptSource (writtens (alone r)) × AreKeptAlone (reverse others)
-  next_kept h = subst AreKeptAlone from_next h
+pub one_read : (items : List Raw) (i : ℕ) (d : Raw) (left new : List Block) (block : Block) (its more : List ReadBlock) (it : ReadBlock) → i < length items → left ≡ new ++ block ∷ [] → more ≡ its ++ it ∷ [] → IsReadOf (get_or items i d) it → AreRead items i left its → AreRead items (i + 1) new more
+one_read items i d left new block its more it lt e added is h = record {
+  done = subst (λ xs. AreReadOf xs more) (sym (take_more items i d lt)) (subst (AreReadOf (take i items ++ get_or items i d ∷ [])) (sym added) (read_more (take i items) its (get_or items i d) it h.done is));
+  rest = subst (λ n. AreBlocksOf (drop n items) (reverse new)) (sym (add-one i)) (next_block items i d left new block lt e h.rest).1;
+}
 
-  pub next_right : AreRight (reverse rest) → (errors_at (alone r) ≡ []) × AreRight (reverse others)
-  next_right h = subst AreRight from_next h
+pub all_read : (items : List Raw) (i : ℕ) (left : List Block) (its : List ReadBlock) → length items ≤ i → AreRead items i left its → AreReadOf items its
+all_read items i left its le h = subst (λ xs. AreReadOf xs its) (take_all i items le) h.done
 
-  pub next_block : (left new : List Block) (block : Block) → left ≡ new ++ block ∷ [] → AreBlocksOf (reverse rest) (reverse left) → IsBlockOf (alone r) block × AreBlocksOf (reverse others) (reverse new)
-  next_block left new block e h =
-      subst (AreBlocksOf (r ∷ reverse others)) (ap reverse e ∙ reverse-append new (block ∷ [])) (subst (λ xs. AreBlocksOf xs (reverse left)) from_next h)
+-- ---- blocks that were read are compiled
 
-  pub one_compiled : (style : Style) (lines : List Line) (all : List Raw) (left new : List Block) (block : Block) (sorted next : Sorted) (notes own more : List Message) (it : Outcome) → left ≡ new ++ block ∷ [] → it ≡ outcome_in style lines (alone r) → own ≡ noted_in (alone r) → more ≡ notes ++ own
-      → ((outcomes : List Outcome) → AreSorted outcomes sorted → AreSorted (outcomes ++ it ∷ []) next) → AreCompiled style lines all rest left sorted notes → AreCompiled style lines all others new next more
-  one_compiled style lines all left new block sorted next notes own more it last comes noted added s h = record {
-    done = h.done ++ r ∷ [];
-    are = h.are ∙ ap (λ xs. h.done ++ xs) from_next ∙ sym (append_assoc h.done (r ∷ []) (reverse others));
-    blocks = (next_block left new block last h.blocks).1;
-    kept = (next_kept h.kept).1;
-    right = (next_right h.right).1;
-    sorted = subst (λ os. AreSorted os next) (ap (λ o. outcomes_in style lines h.done ++ o ∷ []) comes ∙ sym (outcomes_more style lines h.done r)) (s (outcomes_in style lines h.done) h.sorted);
-    notes = added ∙ ap (λ ms. ms ++ own) h.notes ∙ ap (λ ms. all_noted h.done ++ ms) noted ∙ sym (noted_more h.done r);
-  }
+-- Some items are compiled, and sorted are their outcomes. The blocks of the others are left, the next of them last.
+pub record AreCompiled (style : Style) (lines : List Line) (all : List Raw) (left : List ReadBlock) (outcomes : Sorted) (told : List Message) : Type 0 where
+  pub done : List Raw
+  pub rest : List Raw
+  pub are : all ≡ done ++ rest
+  pub reads : AreReadOf rest (reverse left)
+  pub kept : AreKeptAlone rest
+  pub right : AreRight rest
+  pub sorted : AreSorted (outcomes_in style lines done) outcomes
+  pub notes : told ≡ all_noted done
 
-pub all_compiled : (style : Style) (lines : List Line) (all rest : List Raw) (left : List Block) (sorted : Sorted) (notes : List Message) → rest ≡ [] → AreCompiled style lines all rest left sorted notes
+pub none_compiled : (style : Style) (lines : List Line) (items : List Raw) (its left : List ReadBlock) (sorted : Sorted) (notes : List Message) → left ≡ reverse its → AreKeptAlone items → AreRight items → AreReadOf items its → AreSorted [] sorted → notes ≡ [] → AreCompiled style lines items left sorted notes
+none_compiled style lines items its left sorted notes turned kept right reads s n = record {
+  done = [];
+  rest = items;
+  are = refl;
+  reads = subst (AreReadOf items) (sym (ap reverse turned ∙ reverse_twice its)) reads;
+  kept = kept;
+  right = right;
+  sorted = s;
+  notes = n;
+}
+
+-- all that is left of it is right
+pub all_right : (its left : List ReadBlock) → left ≡ reverse its → AreRightReads its → AreRightReads (reverse left)
+all_right its left turned h = subst AreRightReads (sym (ap reverse turned ∙ reverse_twice its)) h
+
+pub next_right : (left new : List ReadBlock) (it : ReadBlock) → left ≡ new ++ it ∷ [] → AreRightReads (reverse left) → IsRightRead it × AreRightReads (reverse new)
+next_right left new it e h = subst AreRightReads (ap reverse e ∙ reverse-append new (it ∷ [])) h
+
+pub each_right_read : (items : List Raw) (its : List ReadBlock) → AreKeptAlone items → AreRight items → AreReadOf items its → AreRightReads its
+each_right_read [] [] kept right reads = tt
+each_right_read [] (y ∷ ys) kept right reads = absurd reads
+each_right_read (x ∷ xs) [] kept right reads = absurd reads
+each_right_read (x ∷ xs) (y ∷ ys) kept right reads = (record { item = x; kept = kept.0; right = right.0; read = reads.0 }, each_right_read xs ys kept.1 right.1 reads.1)
+
+pub one_compiled : (style : Style) (lines : List Line) (all : List Raw) (left new : List ReadBlock) (it : ReadBlock) (sorted next : Sorted) (notes own more : List Message) (made : Outcome) → left ≡ new ++ it ∷ []
+    → ((item : Raw) → IsKeptSource (writtens (alone item)) → errors_at (alone item) ≡ [] → IsReadOf item it → made ≡ outcome_in style lines (alone item))
+    → ((item : Raw) → IsKeptSource (writtens (alone item)) → errors_at (alone item) ≡ [] → IsReadOf item it → own ≡ noted_in (alone item)) → more ≡ notes ++ own
+    → ((outcomes : List Outcome) → AreSorted outcomes sorted → AreSorted (outcomes ++ made ∷ []) next) → AreCompiled style lines all left sorted notes → AreCompiled style lines all new next more
+one_compiled style lines all left new it sorted next notes own more made last comes noted added s h =
+    by h.rest h.are (subst (AreReadOf h.rest) (ap reverse last ∙ reverse-append new (it ∷ [])) h.reads) h.kept h.right
+  where
+    by : (rest : List Raw) → all ≡ h.done ++ rest → AreReadOf rest (it ∷ reverse new) → AreKeptAlone rest → AreRight rest → AreCompiled style lines all new next more
+    by [] are reads kept right = absurd reads
+    by (r ∷ rs) are reads kept right = record {
+      done = h.done ++ r ∷ [];
+      rest = rs;
+      are = are ∙ sym (append_assoc h.done (r ∷ []) rs);
+      reads = reads.1;
+      kept = kept.1;
+      right = right.1;
+      sorted = subst (λ os. AreSorted os next) (ap (λ o. outcomes_in style lines h.done ++ o ∷ []) (comes r kept.0 right.0 reads.0) ∙ sym (outcomes_more style lines h.done r)) (s (outcomes_in style lines h.done) h.sorted);
+      notes = added ∙ ap (λ ms. ms ++ own) h.notes ∙ ap (λ ms. all_noted h.done ++ ms) (noted r kept.0 right.0 reads.0) ∙ sym (noted_more h.done r);
+    }
+
+none_left : (rest : List Raw) → AreReadOf rest [] → rest ≡ []
+none_left [] h = refl
+none_left (x ∷ xs) h = absurd h
+
+pub all_compiled : (style : Style) (lines : List Line) (all : List Raw) (left : List ReadBlock) (sorted : Sorted) (notes : List Message) → left ≡ [] → AreCompiled style lines all left sorted notes
     → AreSorted (outcomes_in style lines all) sorted × (notes ≡ all_noted all)
-all_compiled style lines all rest left sorted notes none h =
-    let same : h.done ≡ all = sym (h.are ∙ ap (λ xs. h.done ++ reverse xs) none ∙ append-nil h.done) in
+all_compiled style lines all left sorted notes none h =
+    let empty : h.rest ≡ [] = none_left h.rest (subst (λ xs. AreReadOf h.rest (reverse xs)) none h.reads) in
+    let same : h.done ≡ all = sym (h.are ∙ ap (λ xs. h.done ++ xs) empty ∙ append-nil h.done) in
     subst (λ xs. AreSorted (outcomes_in style lines xs) sorted × (notes ≡ all_noted xs)) same (h.sorted, h.notes)
 
 -- ---- the names that blocks state for their files

@@ -1,3 +1,4 @@
 pub mod Syntax
 pub mod Compiled
 pub mod Ready
+pub mod Reads

@@ -6,8 +6,10 @@ ghost use Rattle.asl_tree.specs.Tree.{Trees};
 ghost use Rattle.asl_tree.specs.View.{trees_of};
 ghost use Rattle.aml_code.specs.Header.{fields_of};
 ghost use Rattle.asl_parser.specs.Parse.{outcome};
-ghost use Rattle.asl_shape.specs.Forms.{errors_at, alone, IsBlockOf, AreBlocksOf, AreRight};
+ghost use Rattle.asl_shape.specs.Forms.{errors_at, source_errors, alone, IsBlockOf, AreBlocksOf, AreRight};
+ghost use Rattle.asl_shape.specs.AtRaw.{Refuses};
 ghost use Rattle.asl_parser.specs.Written.{writtens};
+ghost use Rattle.asl_parser.specs.declared.raw.Raw.{Raw};
 ghost use Rattle.asl_numbers.specs.Numbers.{nodes as node_count};
 ghost use Rattle.asl_prints.specs.Forms.{formed_all};
 ghost use Rattle.asl_prints.specs.Plans.{formed_plans};
@@ -33,10 +35,10 @@ ghost use Rattle.switch_checks.specs.Locals as locals;
 ghost use Rattle.block_checks.specs.Findings.{AreNamesOf, IsNamed};
 ghost use Rattle.block_checks.specs.Present.{IsPresenceOf};
 ghost use Rattle.block_checks.specs.Told.{with_others};
-ghost use Rattle.block_outcomes.specs.declared.outcome.Compiled.TheVariants.{Refused};
 ghost use Rattle.asl_tables.specs.Compiled.{its_table, its_pieces, of_table, of_right, of_terms, unlowered as not_lowered};
-ghost use Rattle.asl_tables.specs.Compiled.{outcome_in, outcomes_in, noted_in, all_noted, of_items, of_lines, of_outcome, HasAsciiNames};
+ghost use Rattle.asl_tables.specs.Compiled.{outcome_in, outcomes_in, noted_in, all_noted, of_lines, of_outcome, HasAsciiNames};
 ghost use Rattle.asl_tables.specs.Compiled.{TellsWithin};
+ghost use Rattle.asl_tables.specs.Reads.{IsReadOf, AreReadOf, IsRightRead, AreRightReads, items_in, IsSourceOf, IsRefusalOf, UnlessMemory};
 ghost use Rattle.block_outcomes.specs.Joined.{first_told, joined};
 
 use acpi_values::width::Width;
@@ -47,7 +49,7 @@ use asl_formats::program::forms;
 use asl_lexer::token::Tokens;
 use asl_lexer::tokens;
 use asl_lower::lower::lower;
-use asl_parser::{Raw, RawUnit, Raws, Syntax, parse, place_at};
+use asl_parser::{RawUnit, Syntax, SyntaxNode, parse, place_at};
 use asl_shape::shape;
 use asl_tree::program::{Block, Blocks};
 use asl_tree::term::Node;
@@ -55,9 +57,10 @@ use block_checks::check::{CheckedBlock, check, first_class};
 use block_checks::names::{Findings, FoundNames};
 use block_outcomes::messages::{both, one_message, refusal};
 use block_outcomes::outcome::{Compiled, Outcome, join, none_sorted, with_outcome};
+use bumpalo::Bump;
 use form_counts::copies::copies_where;
 use form_presence::present::Presence;
-use iasl_messages::message::{Message, Messages};
+use iasl_messages::message::{Message, Messages, Stage};
 use iasl_messages::number::{NESTING_TOO_DEEP, SYNTAX};
 use iasl_messages::place::{Line, Lines, Pieces, Place};
 use iasl_ports::list::{List, Text};
@@ -393,91 +396,135 @@ fn compile_noted(
     }
 }
 
-// An item that is a block, read alone. What was read of it is let go before the block is checked.
+// A block, and the notes on the literals of its source.
+#[derive(Drop)]
+struct ReadBlock {
+    block: Block,
+    literals: Messages,
+}
+
+// A block, read alone, with the notes on its literals.
 fn compile_item(
     alloc: Global,
     style: Style,
     lines: &SourceLines<'_>,
-    raw: Raw,
-    block: Block,
+    read: ReadBlock,
 ) -> Result<Noted, AllocError>
-    requires kept { IsKeptSource (writtens (alone raw)) }
-    requires right { errors_at (alone raw) ≡ [] }
-    requires block { IsBlockOf (alone raw) block }
-    ensures outcome { IfOk result (λ it. it.outcome ≡ outcome_in style lines.now (alone raw)) }
-    ensures notes { IfOk result (λ it. it.notes ≡ noted_in (alone raw)) }
+    requires { IsRightRead read }
+    ensures outcome { (item : Raw) → IsKeptSource (writtens (alone item)) → errors_at (alone item) ≡ [] → IsReadOf item read →
+        IfOk result (λ it. it.outcome ≡ outcome_in style lines.now (alone item)) }
+    ensures notes { (item : Raw) → IsKeptSource (writtens (alone item)) → errors_at (alone item) ≡ [] → IsReadOf item read →
+        IfOk result (λ it. it.notes ≡ noted_in (alone item)) }
 {
-    let literals = cut_literals(alloc, Width::of_revision(block.revision), &raw)?;
-    drop(raw);
+    let ReadBlock { block, literals } = read;
     let checked = check(alloc, block)?;
     compile_noted(alloc, style, lines, literals, checked)
 }
 
-// Items that are these blocks, each read alone. What was read of an item is let go with it.
+// The blocks of items, each read alone.
 fn compile_items(
     alloc: Global,
     style: Style,
     lines: &SourceLines<'_>,
-    raws: Raws,
-    blocks: Blocks,
+    reads: Vec<ReadBlock>,
 ) -> Result<Compiled, AllocError>
-    requires kept { AreKeptAlone raws }
-    requires right { AreRight raws }
-    requires blocks { AreBlocksOf raws blocks }
-    ensures { IfOk result (λ it. it ≡ joined (all_noted raws) (outcomes_in style lines.now raws)) }
+    requires { AreRightReads reads.items }
+    ensures { (items : List Raw) → AreKeptAlone items → AreRight items → AreReadOf items reads.items →
+        IfOk result (λ it. it ≡ joined (all_noted items) (outcomes_in style lines.now items)) }
 {
-    let mut rest = raws.into_vec();
-    rest.reverse();
-    let mut left = blocks.into_vec();
+    let mut left = reads;
     left.reverse();
     let mut sorted = none_sorted(alloc);
     let mut notes = Messages::new(alloc);
-    while let Some(raw) = rest.pop() {
-        // (there are as many blocks)
-        let block = left.pop().ok_or(AllocError)?;
-        let it = compile_item(alloc, style, lines, raw, block)?;
+    while let Some(read) = left.pop() {
+        let it = compile_item(alloc, style, lines, read)?;
         sorted = with_outcome(alloc, sorted, it.outcome)?;
         notes = both(notes, it.notes)?;
     }
     join(sorted, notes)
 }
 
-// The tree of a source's syntax.
-fn compile_unit(
-    alloc: Global,
-    style: Style,
-    lines: &SourceLines<'_>,
-    unit: RawUnit,
-) -> Result<Compiled, AllocError>
-    requires { AreKeptAlone unit.items }
-    ensures value { IfOk result (λ compiled. compiled ≡ of_items style lines.now unit.items) }
-    ensures own { IfOk result HasAsciiNames }
+// The notes on the literals of an item, with its block.
+fn read_block(alloc: Global, raw: &SyntaxNode<'_>, block: Block) -> Result<ReadBlock, AllocError>
+    requires { IsBlockOf (alone raw.now) block }
+    ensures { IfOk result (IsReadOf raw.now) }
 {
-    match shape(alloc, &unit) {
-        Ok(program) => compile_items(alloc, style, lines, unit.items, program.blocks),
-        Err(stage) => Ok(Compiled::Refused(refusal(stage)?)),
+    let literals = cut_literals(alloc, Width::of_revision(block.revision), raw)?;
+    Ok(ReadBlock { block, literals })
+}
+
+// The blocks that these items are, each with the notes on its literals.
+fn read_blocks(
+    alloc: Global,
+    raws: &[SyntaxNode<'_>],
+    blocks: Blocks,
+) -> Result<Vec<ReadBlock>, AllocError>
+    requires { AreBlocksOf raws.now blocks }
+    ensures { IfOk result (λ reads. AreReadOf raws.now reads.items) }
+{
+    let mut left = blocks.into_vec();
+    left.reverse();
+    let mut reads = Vec::new(alloc);
+    for raw in raws {
+        // (there are as many blocks)
+        let block = left.pop().ok_or(AllocError)?;
+        let read = read_block(alloc, raw, block)?;
+        reads.push(read)?;
+    }
+    Ok(reads)
+}
+
+// The blocks of a source's tree, or what is wrong with its form.
+fn read_unit(alloc: Global, unit: &RawUnit<'_>) -> Result<Vec<ReadBlock>, Stage>
+    ensures errors { IfOk result (λ reads. source_errors unit.now.items ≡ []) }
+    ensures reads { IfOk result (λ reads. AreReadOf unit.now.items reads.items) }
+    ensures refused { IfErr result (λ stage. Refuses stage (source_errors unit.now.items)) }
+{
+    let program = shape(alloc, unit)?;
+    match read_blocks(alloc, unit.items.as_slice(), program.blocks) {
+        Ok(reads) => Ok(reads),
+        Err(_) => Err(Stage::Memory),
     }
 }
 
 // The refusal with this message at the token of that number.
-fn refuse_at(
-    alloc: Global,
-    tokens: &Tokens,
-    number: u16,
-    token: u32,
-) -> Result<Compiled, AllocError>
-    ensures { IfOk result (λ compiled. compiled ≡ Refused (at_token number tokens.now token ∷ [])) }
+fn refuse_at(alloc: Global, tokens: &Tokens, number: u16, token: u32) -> Stage
+    ensures { Refuses result (at_token number tokens.now token ∷ []) }
 {
     let place = place_at(tokens.as_slice(), token);
     let name = Text::new(alloc);
-    Ok(Compiled::Refused(one_message(
+    match one_message(
         alloc,
         Message {
             number,
             place,
             name,
         },
-    )?))
+    ) {
+        Ok(messages) => Stage::Refused(messages),
+        Err(_) => Stage::Memory,
+    }
+}
+
+// The blocks of tokens, or why they are refused. The tree of their syntax lies in an arena, which is let go with it.
+fn read_tokens(alloc: Global, tokens: Tokens) -> Result<Vec<ReadBlock>, Stage>
+    requires few { length tokens < 2 ^ 32 }
+    requires short { HaveShortTexts tokens }
+    ensures source { IfOk result (λ reads. IsSourceOf tokens (items_in (outcome tokens)) reads.items) }
+    ensures refused { IfErr result (IsRefusalOf tokens) }
+    ensures within { (files : ℕ) → 0 < files → All (λ token. token.place.file < files) tokens → (style : Style) (texts : List Line) →
+        UnlessMemory result (TellsWithin files (of_outcome style texts tokens (outcome tokens))) }
+{
+    let arena = Bump::new(alloc);
+    match parse(alloc, &arena, &tokens) {
+        Ok(unit) => {
+            drop(tokens);
+            read_unit(alloc, &unit)
+        }
+        Err(Syntax::Stop { token }) => Err(refuse_at(alloc, &tokens, SYNTAX, token)),
+        Err(Syntax::TooDeep { token }) => Err(refuse_at(alloc, &tokens, NESTING_TOO_DEEP, token)),
+        Err(Syntax::Memory) => Err(Stage::Memory),
+    }
 }
 
 fn compile_tokens(
@@ -492,14 +539,9 @@ fn compile_tokens(
     ensures own { IfOk result HasAsciiNames }
     ensures within { (files : ℕ) → 0 < files → All (λ token. token.place.file < files) tokens → IfOk result (TellsWithin files) }
 {
-    match parse(alloc, &tokens) {
-        Ok(unit) => {
-            drop(tokens);
-            compile_unit(alloc, style, lines, unit)
-        }
-        Err(Syntax::Stop { token }) => refuse_at(alloc, &tokens, SYNTAX, token),
-        Err(Syntax::TooDeep { token }) => refuse_at(alloc, &tokens, NESTING_TOO_DEEP, token),
-        Err(Syntax::Memory) => Err(AllocError),
+    match read_tokens(alloc, tokens) {
+        Ok(reads) => compile_items(alloc, style, lines, reads),
+        Err(stage) => Ok(Compiled::Refused(refusal(stage)?)),
     }
 }
 

@@ -5,7 +5,7 @@ ghost use Rattle.asl_shape.specs.Forms.{alone};
 ghost use Rattle.literal_checks.specs.Literals as spec;
 
 use acpi_values::width::Width;
-use asl_parser::{Raw, Raws};
+use asl_parser::{NodeForm, SyntaxNode, SyntaxNodes};
 use asl_words::meaning::{Meaning, meaning_of};
 use asl_words::operator::{Body, Parameter, Slot};
 use asl_words::parameters::{body_of, parameters_of};
@@ -64,7 +64,7 @@ fn holds_wide(meaning: Meaning) -> bool
 }
 
 // What stands in brackets.
-fn inside_of(raws: &Option<Raws>) -> &[Raw]
+fn inside_of<'r, 'a>(raws: &'r Option<SyntaxNodes<'a>>) -> &'r [SyntaxNode<'a>]
     ensures { result.now ≡ inside_at raws.now }
 {
     match raws {
@@ -73,7 +73,7 @@ fn inside_of(raws: &Option<Raws>) -> &[Raw]
     }
 }
 
-fn is_given(raws: &Option<Raws>) -> bool
+fn is_given(raws: &Option<SyntaxNodes<'_>>) -> bool
     ensures { result ≡ is_some raws.now }
 {
     match raws {
@@ -100,12 +100,12 @@ fn tell(alloc: Global, out: &mut Vec<Message>, place: Place, value: u64) -> Resu
 // A part of a source.
 #[cycle(parts)]
 #[tactic(auto, using(crate::proofs::Told::part_rules, asl_shape::proofs::Shapes::size_rules))]
-fn part(alloc: Global, out: &mut Vec<Message>, raw: &Raw) -> Result<(), AllocError>
+fn part(alloc: Global, out: &mut Vec<Message>, raw: &SyntaxNode<'_>) -> Result<(), AllocError>
     ensures { OnOk result (out.new.items ≡ out.old.items ++ spec.told_at raw.now) }
 {
-    match raw {
-        Raw::Number { place, value } => Ok(tell(alloc, out, *place, *value)?),
-        Raw::Item {
+    match &raw.form {
+        NodeForm::Number { place, value } => Ok(tell(alloc, out, *place, *value)?),
+        NodeForm::Item {
             word,
             args,
             body,
@@ -117,12 +117,12 @@ fn part(alloc: Global, out: &mut Vec<Message>, raw: &Raw) -> Result<(), AllocErr
             args,
             body,
         )?),
-        Raw::Apply { args, .. } => Ok(parts(alloc, out, &[], args.as_slice())?),
-        Raw::Text { .. } => Ok(()),
-        Raw::List { .. } => Ok(()),
-        Raw::Comma => Ok(()),
-        Raw::Semicolon => Ok(()),
-        Raw::Empty => Ok(()),
+        NodeForm::Apply { args, .. } => Ok(parts(alloc, out, &[], args.as_slice())?),
+        NodeForm::Text { .. } => Ok(()),
+        NodeForm::List { .. } => Ok(()),
+        NodeForm::Comma => Ok(()),
+        NodeForm::Semicolon => Ok(()),
+        NodeForm::Empty => Ok(()),
     }
 }
 
@@ -133,8 +133,8 @@ fn item(
     alloc: Global,
     out: &mut Vec<Message>,
     meaning: Meaning,
-    args: &Option<Raws>,
-    body: &Option<Raws>,
+    args: &Option<SyntaxNodes<'_>>,
+    body: &Option<SyntaxNodes<'_>>,
 ) -> Result<(), AllocError>
     ensures { OnOk result (out.new.items ≡ out.old.items ++ spec.told_item_at meaning args.now body.now) }
 {
@@ -153,7 +153,7 @@ fn unless_wide(
     alloc: Global,
     out: &mut Vec<Message>,
     wide: bool,
-    raw: &Raw,
+    raw: &SyntaxNode<'_>,
 ) -> Result<(), AllocError>
     ensures { OnOk result (out.new.items ≡ out.old.items ++ spec.unless wide (spec.told_at raw.now)) }
 {
@@ -171,7 +171,7 @@ fn parts(
     alloc: Global,
     out: &mut Vec<Message>,
     parameters: &[Parameter],
-    raws: &[Raw],
+    raws: &[SyntaxNode<'_>],
 ) -> Result<(), AllocError>
     ensures { OnOk result (out.new.items ≡ out.old.items ++ spec.told_in_at parameters.now raws.now) }
 {
@@ -183,18 +183,18 @@ fn parts(
 
 // The braces of a block.
 #[tactic(auto, using(crate::proofs::Told::braces_rules))]
-fn braces(alloc: Global, out: &mut Vec<Message>, raw: &Raw) -> Result<(), AllocError>
+fn braces(alloc: Global, out: &mut Vec<Message>, raw: &SyntaxNode<'_>) -> Result<(), AllocError>
     ensures { OnOk result (out.new.items ≡ out.old.items ++ spec.told_braces_at raw.now) }
 {
-    match raw {
-        Raw::Item { body, .. } => Ok(parts(alloc, out, &[], inside_of(body))?),
-        Raw::Number { .. } => Ok(()),
-        Raw::Text { .. } => Ok(()),
-        Raw::Apply { .. } => Ok(()),
-        Raw::List { .. } => Ok(()),
-        Raw::Comma => Ok(()),
-        Raw::Semicolon => Ok(()),
-        Raw::Empty => Ok(()),
+    match &raw.form {
+        NodeForm::Item { body, .. } => Ok(parts(alloc, out, &[], inside_of(body))?),
+        NodeForm::Number { .. } => Ok(()),
+        NodeForm::Text { .. } => Ok(()),
+        NodeForm::Apply { .. } => Ok(()),
+        NodeForm::List { .. } => Ok(()),
+        NodeForm::Comma => Ok(()),
+        NodeForm::Semicolon => Ok(()),
+        NodeForm::Empty => Ok(()),
     }
 }
 
@@ -203,7 +203,11 @@ fn braces(alloc: Global, out: &mut Vec<Message>, raw: &Raw) -> Result<(), AllocE
 /// bytes, or of a resource template, is none: such constants are evaluated with 64 bits in every table, and so are the
 /// block's own arguments.
 #[tactic(auto, using(crate::proofs::Told::block_rules))]
-pub fn cut_literals(alloc: Global, width: Width, block: &Raw) -> Result<Messages, AllocError>
+pub fn cut_literals(
+    alloc: Global,
+    width: Width,
+    block: &SyntaxNode<'_>,
+) -> Result<Messages, AllocError>
     ensures { IfOk result (λ messages. messages ≡ spec.cut_literals_at width (alone block.now)) }
 {
     let mut out = Vec::new(alloc);

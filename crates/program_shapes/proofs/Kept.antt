@@ -30,7 +30,7 @@ use Rattle.asl_words.specs.Operators.{parameters_of}
 use Rattle.asl_shape.specs.Symbols.{symbol_of}
 use Rattle.asl_shape.specs.Shapes.{is_empty, is_separator, takes}
 use Rattle.asl_shape.specs.Shapes as shapes
-use Rattle.asl_parser.proofs.Views.{written_number, written_text, written_item, written_apply, written_list, written_comma, written_semicolon, written_empty}
+use Rattle.asl_parser.specs.Views.{written_number, written_text, written_item, written_apply, written_list, written_comma, written_semicolon, written_empty}
 use Rattle.program_shapes.proofs.Words.{both_true}
 use Rattle.program_shapes.specs.Kept.{IsKept, AreArguments, EachArgument, AreMembers, EachMember, IsKeptSource, AreKeptAlone}
 

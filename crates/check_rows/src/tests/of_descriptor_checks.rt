@@ -8,6 +8,7 @@ use acpi_names::index::{BlockNames, names_of};
 use asl_parser::parse;
 use asl_shape::shape;
 use asl_tree::term::{Node, Term, Word};
+use bumpalo::Bump;
 use descriptor_checks::check::{Resolved, resolved_names};
 use descriptor_checks::described::described;
 use descriptor_checks::told::sorted_mentions;
@@ -78,7 +79,8 @@ fn outcome(alloc: Global, text: &str) -> Result<String, AllocError> {
     if tokens.len() > 1000 {
         return String::from_str(alloc, "too long");
     }
-    let Ok(unit) = parse(alloc, &tokens) else {
+    let arena = Bump::new(alloc);
+    let Ok(unit) = parse(alloc, &arena, &tokens) else {
         return String::from_str(alloc, "no tree");
     };
     let Ok(program) = shape(alloc, &unit) else {

@@ -1,6 +1,7 @@
 use super::tokens_of;
 use asl_parser::parse;
 use asl_shape::shape;
+use bumpalo::Bump;
 use statement_checks::check::statement_errors;
 use std::alloc::{AllocError, Global};
 use std::test::Fail;
@@ -12,7 +13,8 @@ fn errors(alloc: Global, text: &str) -> Result<String, AllocError> {
     if tokens.len() > 1000 {
         return Ok(out);
     }
-    let Ok(unit) = parse(alloc, &tokens) else {
+    let arena = Bump::new(alloc);
+    let Ok(unit) = parse(alloc, &arena, &tokens) else {
         return String::from_str(alloc, "no tree");
     };
     let Ok(program) = shape(alloc, &unit) else {

@@ -2,6 +2,7 @@ use super::{listed, tokens_of};
 use acpi_values::width::Width;
 use asl_parser::parse;
 use asl_shape::shape;
+use bumpalo::Bump;
 use std::alloc::{AllocError, Global};
 use std::test::Fail;
 use switch_checks::locals::few_locals;
@@ -20,7 +21,8 @@ fn told(alloc: Global, check: Check, text: &str) -> Result<String, AllocError> {
     if tokens.len() > 1000 {
         return String::from_str(alloc, "too long");
     }
-    let Ok(unit) = parse(alloc, &tokens) else {
+    let arena = Bump::new(alloc);
+    let Ok(unit) = parse(alloc, &arena, &tokens) else {
         return String::from_str(alloc, "no tree");
     };
     let Ok(program) = shape(alloc, &unit) else {

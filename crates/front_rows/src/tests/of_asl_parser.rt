@@ -1,5 +1,6 @@
 use asl_lexer::token::{Token, TokenKind, Tokens};
-use asl_parser::{Infix, Raw, Raws, Syntax, parse};
+use asl_parser::{Infix, NodeForm, Syntax, SyntaxNode, SyntaxNodes, SyntaxText, parse};
+use bumpalo::Bump;
 use iasl_messages::place::Place;
 use iasl_ports::list::Text;
 use std::alloc::{AllocError, Global};
@@ -54,7 +55,7 @@ fn tokens_of(alloc: Global, text: &str) -> Result<Tokens, AllocError> {
     Ok(tokens)
 }
 
-fn put_text(out: &mut String, text: &Text) -> Result<(), AllocError> {
+fn put_text(out: &mut String, text: &SyntaxText<'_>) -> Result<(), AllocError> {
     for byte in text.as_bytes() {
         out.push(char::from(*byte))?;
     }
@@ -72,7 +73,7 @@ fn put_operator(out: &mut String, op: Infix, place: Place) -> Result<(), AllocEr
 fn put_all(
     out: &mut String,
     opening: &str,
-    raws: &[Raw],
+    raws: &[SyntaxNode<'_>],
     closing: &str,
     room: u8,
 ) -> Result<(), AllocError> {
@@ -89,9 +90,9 @@ fn put_all(
 #[cycle(put)]
 fn put_item(
     out: &mut String,
-    word: &Text,
-    args: &Option<Raws>,
-    body: &Option<Raws>,
+    word: &SyntaxText<'_>,
+    args: &Option<SyntaxNodes<'_>>,
+    body: &Option<SyntaxNodes<'_>>,
     room: u8,
 ) -> Result<(), AllocError> {
     put_text(out, word)?;
@@ -110,7 +111,7 @@ fn put_apply(
     out: &mut String,
     op: Infix,
     place: Place,
-    args: &Raws,
+    args: &SyntaxNodes<'_>,
     room: u8,
 ) -> Result<(), AllocError> {
     put_operator(out, op, place)?;
@@ -119,21 +120,21 @@ fn put_apply(
 
 /// Writes a tree.
 #[cycle(put)]
-fn put(out: &mut String, raw: &Raw, room: u8) -> Result<(), AllocError> {
-    match raw {
-        Raw::Number { value, .. } => write!(out, "{value}"),
-        Raw::Text { text, .. } => put_text(out, text),
-        Raw::Item {
+fn put(out: &mut String, raw: &SyntaxNode<'_>, room: u8) -> Result<(), AllocError> {
+    match &raw.form {
+        NodeForm::Number { value, .. } => write!(out, "{value}"),
+        NodeForm::Text { text, .. } => put_text(out, text),
+        NodeForm::Item {
             word,
             args,
             body,
             ..
         } => put_item(out, word, args, body, room),
-        Raw::Apply { place, op, args } => put_apply(out, *op, *place, args, room),
-        Raw::List { items, .. } => put_all(out, "[ ", items.as_slice(), "]", room),
-        Raw::Comma => out.push(','),
-        Raw::Semicolon => out.push(';'),
-        Raw::Empty => out.push('_'),
+        NodeForm::Apply { place, op, args } => put_apply(out, *op, *place, args, room),
+        NodeForm::List { items, .. } => put_all(out, "[ ", items.as_slice(), "]", room),
+        NodeForm::Comma => out.push(','),
+        NodeForm::Semicolon => out.push(';'),
+        NodeForm::Empty => out.push('_'),
     }
 }
 
@@ -142,7 +143,8 @@ fn put_answer(alloc: Global, out: &mut String, tokens: &Tokens) -> Result<(), Al
     if tokens.len() > 1000 {
         return out.push_str("too long");
     }
-    match parse(alloc, tokens) {
+    let arena = Bump::new(alloc);
+    match parse(alloc, &arena, tokens) {
         Ok(unit) => put_all(out, "", unit.items.as_slice(), "", 20),
         Err(Syntax::Stop { token }) => write!(out, "stop {token}"),
         Err(Syntax::TooDeep { token }) => write!(out, "deep {token}"),

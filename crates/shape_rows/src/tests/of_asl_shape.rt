@@ -9,6 +9,7 @@ use asl_parser::parse;
 use asl_shape::shape;
 use asl_tree::program::Program;
 use asl_tree::term::{Compound, Op, Special, Symbolic, Term};
+use bumpalo::Bump;
 use iasl_messages::message::Stage;
 use iasl_messages::place::Place;
 use iasl_ports::list::Text;
@@ -63,7 +64,8 @@ fn errors(alloc: Global, text: &str) -> Result<String, AllocError> {
     if tokens.len() > 1000 {
         return String::from_str(alloc, "too long");
     }
-    let Ok(unit) = parse(alloc, &tokens) else {
+    let arena = Bump::new(alloc);
+    let Ok(unit) = parse(alloc, &arena, &tokens) else {
         return String::from_str(alloc, "no tree");
     };
     match shape(alloc, &unit) {
@@ -459,7 +461,8 @@ fn with_term(alloc: Global, text: &str) -> Result<Option<Program>, AllocError> {
     if tokens.len() > 1000 {
         return Ok(None);
     }
-    let Ok(unit) = parse(alloc, &tokens) else {
+    let arena = Bump::new(alloc);
+    let Ok(unit) = parse(alloc, &arena, &tokens) else {
         return Ok(None);
     };
     match shape(alloc, &unit) {

@@ -1,28 +1,29 @@
 use Rattle.std.proofs.Common.{ap, sym, ◌∙◌}
+use Rattle.asl_parser.specs.Nodes.{raw_in}
 use Rattle.asl_shape.specs.AtRaw.{is_text_at}
 use Rattle.asl_shape.proofs.Braces.{text_comma, text_semicolon, text_number, text_text, text_item, text_apply, text_list, text_empty}
 use Rattle.asl_shape.proofs.lists.is_text.Goals as goal
 
 pub returns-in-Comma : goal.returns-in-Comma
-returns-in-Comma c = sym (ap is_text_at c.in-Comma.is ∙ text_comma)
+returns-in-Comma c = sym (ap is_text_at (sym c.raw.view_is ∙ ap raw_in c.in-Comma.is) ∙ text_comma)
 
 pub returns-in-Semicolon : goal.returns-in-Semicolon
-returns-in-Semicolon c = sym (ap is_text_at c.in-Semicolon.is ∙ text_semicolon)
+returns-in-Semicolon c = sym (ap is_text_at (sym c.raw.view_is ∙ ap raw_in c.in-Semicolon.is) ∙ text_semicolon)
 
 pub returns-in-Number : goal.returns-in-Number
-returns-in-Number c = sym (ap is_text_at c.in-Number.is ∙ text_number _ _)
+returns-in-Number c = sym (ap is_text_at (sym c.raw.view_is ∙ ap raw_in c.in-Number.is) ∙ text_number _ _)
 
 pub returns-in-Text : goal.returns-in-Text
-returns-in-Text c = sym (ap is_text_at c.in-Text.is ∙ text_text _ _)
+returns-in-Text c = sym (ap is_text_at (sym c.raw.view_is ∙ ap raw_in c.in-Text.is) ∙ text_text _ _)
 
 pub returns-in-Item : goal.returns-in-Item
-returns-in-Item c = sym (ap is_text_at c.in-Item.is ∙ text_item _ _ _ _)
+returns-in-Item c = sym (ap is_text_at (sym c.raw.view_is ∙ ap raw_in c.in-Item.is) ∙ text_item _ _ _ _)
 
 pub returns-in-Apply : goal.returns-in-Apply
-returns-in-Apply c = sym (ap is_text_at c.in-Apply.is ∙ text_apply _ _ _)
+returns-in-Apply c = sym (ap is_text_at (sym c.raw.view_is ∙ ap raw_in c.in-Apply.is) ∙ text_apply _ _ _)
 
 pub returns-in-List : goal.returns-in-List
-returns-in-List c = sym (ap is_text_at c.in-List.is ∙ text_list _ _)
+returns-in-List c = sym (ap is_text_at (sym c.raw.view_is ∙ ap raw_in c.in-List.is) ∙ text_list _ _)
 
 pub returns-in-Empty : goal.returns-in-Empty
-returns-in-Empty c = sym (ap is_text_at c.in-Empty.is ∙ text_empty)
+returns-in-Empty c = sym (ap is_text_at (sym c.raw.view_is ∙ ap raw_in c.in-Empty.is) ∙ text_empty)

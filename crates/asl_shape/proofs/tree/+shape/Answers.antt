@@ -1,5 +1,6 @@
 use Rattle.std.proofs.Common.{◌≡◌, ◌<◌, ◌++◌, [], length, append-nil, slice_get, Some, ◌+◌, arith, drop, get_or, ap, sym, subst, ◌∙◌, OnOk}
 use Rattle.std.proofs.lemmas.Result.{on_ok_weaker}
+use Rattle.asl_parser.specs.Nodes.{raw_in}
 use Rattle.asl_shape.specs.Shapes.{Shaped, nowhere, one_plan, evaluated, checked, number_shape, text_shape}
 use Rattle.asl_shape.specs.AtRaw.{shape_at, bare_at, item_at, place_at, member_at, one_at, run_after_at, terms_at, default_after_at, cases_at, part_at, unit_at, due_behind_at}
 use Rattle.asl_shape.specs.Plans.{Plan, plans_of, join, last_plan, before_last, with_last}
@@ -12,25 +13,25 @@ use Rattle.asl_shape.proofs.tree.+shape.Goals as goal
 
 pub add_bare-returns-in-Item-clause-faults : goal.add_bare-returns-in-Item-clause-faults
 add_bare-returns-in-Item-clause-faults t c =
-    subst (λ x. OnOk c.add_item.result (c.add_item.new.work.faults.items ≡ c.args.work.now.faults.items ++ x.faults)) (sym (ap (bare_at c.args.slot.now c.args.inside.now) c.in-Item.is ∙ bare_item c.args.slot.now c.args.inside.now c.in-Item.place c.in-Item.word c.in-Item.args c.in-Item.body)) c.add_item.ensures.faults
+    subst (λ x. OnOk c.add_item.result (c.add_item.new.work.faults.items ≡ c.args.work.now.faults.items ++ x.faults)) (sym (ap (bare_at c.args.slot.now c.args.inside.now) (sym c.raw.view_is ∙ ap raw_in c.in-Item.is) ∙ bare_item c.args.slot.now c.args.inside.now c.in-Item.place c.in-Item.word c.in-Item.args c.in-Item.body)) c.add_item.ensures.faults
 
 pub add_bare-returns-in-Item-clause-made : goal.add_bare-returns-in-Item-clause-made
 add_bare-returns-in-Item-clause-made t c =
     read_there c.add_item.result c.args.slot.now c.args.inside.now c.args.place.now c.in-Item.place c.args.raw.now (item_at c.args.slot.now c.args.inside.now c.in-Item.place c.in-Item.word c.in-Item.args c.in-Item.body) (plans_of c.args.nodes.now.items) (plans_of c.add_item.new.nodes.items)
-    (ap (bare_at c.args.slot.now c.args.inside.now) c.in-Item.is ∙ bare_item c.args.slot.now c.args.inside.now c.in-Item.place c.in-Item.word c.in-Item.args c.in-Item.body)
-    (ap (place_at c.args.place.now) c.in-Item.is ∙ place_item c.args.place.now c.in-Item.place c.in-Item.word c.in-Item.args c.in-Item.body) c.add_item.ensures.made
+    (ap (bare_at c.args.slot.now c.args.inside.now) (sym c.raw.view_is ∙ ap raw_in c.in-Item.is) ∙ bare_item c.args.slot.now c.args.inside.now c.in-Item.place c.in-Item.word c.in-Item.args c.in-Item.body)
+    (ap (place_at c.args.place.now) (sym c.raw.view_is ∙ ap raw_in c.in-Item.is) ∙ place_item c.args.place.now c.in-Item.place c.in-Item.word c.in-Item.args c.in-Item.body) c.add_item.ensures.made
 
 pub add_bare-returns-in-Number-clause-made : goal.add_bare-returns-in-Number-clause-made
 add_bare-returns-in-Number-clause-made t c =
     read_there c.add_number.result c.args.slot.now c.args.inside.now c.args.place.now c.in-Number.place c.args.raw.now (number_shape c.args.slot.now c.in-Number.place c.in-Number.value) (plans_of c.args.nodes.now.items) (plans_of c.add_number.new.nodes.items)
-    (ap (bare_at c.args.slot.now c.args.inside.now) c.in-Number.is ∙ bare_number c.args.slot.now c.args.inside.now c.in-Number.place c.in-Number.value)
-    (ap (place_at c.args.place.now) c.in-Number.is ∙ place_number c.args.place.now c.in-Number.place c.in-Number.value) c.add_number.ensures.made
+    (ap (bare_at c.args.slot.now c.args.inside.now) (sym c.raw.view_is ∙ ap raw_in c.in-Number.is) ∙ bare_number c.args.slot.now c.args.inside.now c.in-Number.place c.in-Number.value)
+    (ap (place_at c.args.place.now) (sym c.raw.view_is ∙ ap raw_in c.in-Number.is) ∙ place_number c.args.place.now c.in-Number.place c.in-Number.value) c.add_number.ensures.made
 
 pub add_bare-returns-in-Text-clause-made : goal.add_bare-returns-in-Text-clause-made
 add_bare-returns-in-Text-clause-made t c =
     read_there c.add_text.result c.args.slot.now c.args.inside.now c.args.place.now c.in-Text.place c.args.raw.now (text_shape c.args.slot.now c.in-Text.place c.in-Text.text) (plans_of c.args.nodes.now.items) (plans_of c.add_text.new.nodes.items)
-    (ap (bare_at c.args.slot.now c.args.inside.now) c.in-Text.is ∙ bare_text c.args.slot.now c.args.inside.now c.in-Text.place c.in-Text.text)
-    (ap (place_at c.args.place.now) c.in-Text.is ∙ place_text c.args.place.now c.in-Text.place c.in-Text.text) c.add_text.ensures.made
+    (ap (bare_at c.args.slot.now c.args.inside.now) (sym c.raw.view_is ∙ ap raw_in c.in-Text.is) ∙ bare_text c.args.slot.now c.args.inside.now c.in-Text.place c.in-Text.text)
+    (ap (place_at c.args.place.now) (sym c.raw.view_is ∙ ap raw_in c.in-Text.is) ∙ place_text c.args.place.now c.in-Text.place c.in-Text.text) c.add_text.ensures.made
 
 pub operands-loop-raw-preserved : goal.operands-loop-raw-preserved
 operands-loop-raw-preserved t c = record {
@@ -75,7 +76,7 @@ cases-loop-raw-preserved t c =
     }
 
 pub add_bare-add_item-requires : goal.add_bare-add_item-requires
-add_bare-add_item-requires t c = (grind (arith, c.decreases, item_smaller c.args.raw.now c.in-Item.place c.in-Item.word c.in-Item.args c.in-Item.body c.in-Item.is), tt)
+add_bare-add_item-requires t c = (grind (arith, c.decreases, item_smaller c.args.raw.now c.in-Item.place c.in-Item.word c.in-Item.args c.in-Item.body (sym c.raw.view_is ∙ ap raw_in c.in-Item.is)), tt)
 
 pub add_argument-returns-in_ok-add-in-Some-clause-faults : goal.add_argument-returns-in_ok-add-in-Some-clause-faults
 add_argument-returns-in_ok-add-in-Some-clause-faults t c =

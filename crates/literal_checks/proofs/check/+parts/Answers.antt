@@ -1,4 +1,5 @@
-use Rattle.std.proofs.Common.{◌≡◌, ◌++◌, arith, drop, ap, sym, ◌∙◌}
+use Rattle.std.proofs.Common.{◌++◌, arith, drop, ap, sym, ◌∙◌}
+use Rattle.asl_parser.specs.Nodes.{raw_in}
 use Rattle.asl_words.specs.Meanings.{meaning_of}
 use Rattle.asl_shape.specs.AtRaw.{is_some}
 use Rattle.literal_checks.specs.Literals.{is_first_wide, unless, told_at, told_item_at}
@@ -6,7 +7,7 @@ use Rattle.literal_checks.proofs.Told.{of_item, item_smaller, list_next, list_ov
 use Rattle.literal_checks.proofs.check.+parts.Goals as goal
 
 pub part-item-requires : goal.part-item-requires
-part-item-requires t c = (grind (arith, c.decreases, item_smaller c.args.raw.now c.in-Item.place c.in-Item.word c.in-Item.args c.in-Item.body c.in-Item.is), tt)
+part-item-requires t c = (grind (arith, c.decreases, item_smaller c.args.raw.now c.in-Item.place c.in-Item.word c.in-Item.args c.in-Item.body (sym c.raw.view_is ∙ ap raw_in c.in-Item.is)), tt)
 
 pub part-returns-in_ok-item-in-Item : goal.part-returns-in_ok-item-in-Item
 part-returns-in_ok-item-in-Item t c =
@@ -15,7 +16,7 @@ part-returns-in_ok-item-in-Item t c =
     let body = c.in-Item.body in
     let meaning = c.meaning_of.ensures ∙ ap (meaning_of c.as_bytes.result.now) c.is_given.ensures ∙ ap (λ w. meaning_of w (is_some body)) c.as_bytes.ensures in
     c.in_ok-item-in-Item.ensures ∙ ap (λ m. old ++ told_item_at m args body) meaning
-    ∙ ap (λ ms. old ++ ms) (sym (ap told_at c.in-Item.is ∙ of_item c.in-Item.place c.in-Item.word args body))
+    ∙ ap (λ ms. old ++ ms) (sym (ap told_at (sym c.raw.view_is ∙ ap raw_in c.in-Item.is) ∙ of_item c.in-Item.place c.in-Item.word args body))
 
 pub parts-loop-i-preserved : goal.parts-loop-i-preserved
 parts-loop-i-preserved t c =

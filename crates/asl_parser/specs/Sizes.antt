@@ -1,5 +1,5 @@
 -- How much of a source a part of its tree is.
-use Rattle.std.specs.Prelude.{ℕ, suc, ◌+◌, List, Option}
+use Rattle.std.specs.Prelude.{ℕ, suc, ◌+◌, ◌*◌, List, Option}
 use Rattle.asl_parser.specs.declared.raw.Raw.{Raw}
 use Rattle.asl_parser.specs.Written.{Written, item, apply, listed, Writtens, none, more, WrittenGroup, absent, given, written, writtens}
 use Rattle.asl_parser.specs.Written.{written_in}
@@ -28,3 +28,10 @@ sizes_at raws = sizes (writtens raws)
 
 unfoldable pub size_in_at : Option (List Raw) → ℕ
 size_in_at raws = size_in (written_in raws)
+
+-- as the code keeps them: each list of a node is less than it, and each node of a list less than that
+abbrev pub extent : Raw → ℕ
+extent raw = 2 * size_at raw
+
+abbrev pub extent_in : List Raw → ℕ
+extent_in raws = 2 * sizes_at raws + 1

@@ -1,0 +1,168 @@
+//! The tree of a source as the code keeps it: its lists and its long texts lie in an arena, and are let go with that.
+ghost use Rattle.std.specs.Prelude.{◌≡◌, ◌≤◌, ◌+◌, [], take, drop, length, IfOk, OnOk, OnErr};
+ghost use Rattle.std.specs.Vec.{vec_capacity};
+
+use crate::raw::Infix;
+use crate::text::SyntaxText;
+use bumpalo::Bump;
+use bumpalo::collections::into_bump_slice;
+use iasl_messages::place::Place;
+use std::alloc::AllocError;
+use std::marker::Model;
+use std::mem::replace;
+
+/// A node of the tree. Contracts see it as a `Raw`.
+#[cycle(syntax)]
+pub struct SyntaxNode<'a> {
+    pub form: NodeForm<'a>,
+}
+
+/// What a node is.
+#[cycle(syntax)]
+#[derive(Drop)]
+pub enum NodeForm<'a> {
+    Number {
+        place: Place,
+        value: u64,
+    },
+    Text {
+        place: Place,
+        text: SyntaxText<'a>,
+    },
+    /// A word or path with its arguments in parentheses and its body in braces, where there are any.
+    Item {
+        place: Place,
+        word: SyntaxText<'a>,
+        args: Option<SyntaxNodes<'a>>,
+        body: Option<SyntaxNodes<'a>>,
+    },
+    /// An operator with its operands. The place is that of the operator.
+    Apply {
+        place: Place,
+        op: Infix,
+        args: SyntaxNodes<'a>,
+    },
+    /// A list as an argument, or inside one.
+    List {
+        place: Place,
+        items: SyntaxNodes<'a>,
+    },
+    /// A comma in a body.
+    Comma,
+    /// A semicolon in a body.
+    Semicolon,
+    /// An argument that is left out.
+    Empty,
+}
+
+/// Nodes in order, in an arena. Contracts see them as a list.
+#[cycle(syntax)]
+pub struct SyntaxNodes<'a> {
+    items: &'a [SyntaxNode<'a>],
+}
+
+// By hand, so that an owner lets go of it by one call (docs/DECISIONS.md).
+impl Drop for SyntaxNode<'_> {
+    fn drop(self) {
+        let SyntaxNode { form: _ } = self;
+    }
+}
+
+impl Drop for SyntaxNodes<'_> {
+    fn drop(self) {
+        let SyntaxNodes { items: _ } = self;
+    }
+}
+
+impl<'a> Model for SyntaxNode<'a> {
+    ghost use Rattle.asl_parser.specs.declared.raw.Raw.{Raw};
+    ghost use Rattle.asl_parser.specs.contracts.raw.Raw as raw_row;
+
+    ghost Value = { Raw };
+
+    ghost coded = { raw_row.the_row.coded };
+
+    ghost use Rattle.asl_parser.specs.Nodes.{raw_in};
+    ghost use Rattle.asl_parser.specs.Sizes.{extent};
+
+    ghost view = { λ node. raw_in node.form };
+
+    ghost size = { extent };
+
+    ghost use Rattle.asl_parser.specs.Falls.{node_falls};
+
+    ghost size_decreases = { λ node h. node_falls node.form };
+}
+
+impl<'a> Model for SyntaxNodes<'a> {
+    ghost use Rattle.std.specs.Prelude.{List};
+    ghost use Rattle.asl_parser.specs.declared.raw.Raw.{Raw};
+    ghost use Rattle.std.specs.Coded.{coded_list};
+    ghost use Rattle.asl_parser.specs.contracts.raw.Raw as raw_row;
+
+    ghost Value = { List Raw };
+
+    ghost coded = { coded_list raw_row.the_row.coded };
+
+    ghost use Rattle.asl_parser.specs.Sizes.{extent_in};
+
+    ghost view = { λ nodes. nodes.items.now };
+
+    ghost size = { extent_in };
+
+    ghost use Rattle.asl_parser.specs.Falls.{nodes_fall};
+
+    ghost size_decreases = { λ nodes h. nodes_fall nodes.items.now };
+}
+
+// What stands in the place of a node that was moved.
+fn nothing<'a>() -> SyntaxNode<'a> {
+    SyntaxNode {
+        form: NodeForm::Comma,
+    }
+}
+
+// Moves the nodes from a place on into a list that has room for them.
+fn move_tail<'a>(
+    nodes: &mut Vec<SyntaxNode<'a>>,
+    start: usize,
+    list: &mut Vec<SyntaxNode<'a>, &'a Bump>,
+)
+    requires within { start ≤ length nodes.old.items }
+    requires none { list.old.items ≡ [] }
+    requires room { length nodes.old.items ≤ start + vec_capacity list.old }
+    ensures list { list.new.items ≡ drop start nodes.old.items }
+    ensures rest { take start nodes.new.items ≡ take start nodes.old.items }
+{
+    for i in start..nodes.len() {
+        list.push_reserved(replace(&mut nodes[i], nothing()));
+    }
+}
+
+impl<'a> SyntaxNodes<'a> {
+    /// The nodes from a place on, moved to the arena.
+    pub fn taken(
+        arena: &'a Bump,
+        nodes: &mut Vec<SyntaxNode<'a>>,
+        start: usize,
+    ) -> Result<SyntaxNodes<'a>, AllocError>
+        requires { start ≤ length nodes.old.items }
+        ensures taken { IfOk result (λ list. list ≡ drop start nodes.old.items) }
+        ensures rest { OnOk result (nodes.new.items ≡ take start nodes.old.items) }
+        ensures err { OnErr result (nodes.new.items ≡ nodes.old.items) }
+    {
+        let mut list = Vec::with_capacity(arena, nodes.len() - start)?;
+        move_tail(nodes, start, &mut list);
+        nodes.truncate(start);
+        Ok(SyntaxNodes {
+            items: into_bump_slice(list),
+        })
+    }
+
+    /// All nodes, in order.
+    pub fn as_slice(&self) -> &[SyntaxNode<'a>]
+        ensures { result.now ≡ self.now }
+    {
+        self.items
+    }
+}

@@ -1,0 +1,25 @@
+use Rattle.std.proofs.Common.{reverse, ap, sym, subst, ◌∙◌}
+use Rattle.asl_shape.specs.Forms.{alone, IsBlockOf}
+use Rattle.asl_tables.specs.Reads.{IsReadOf}
+use Rattle.asl_tables.proofs.Items.{none_read, popped_block, next_block, one_read, all_read}
+use Rattle.asl_tables.proofs.compile.read_blocks.Goals as goal
+
+pub loop-raw-init : goal.loop-raw-init
+loop-raw-init c = none_read c.args.raws.now c.args.blocks _ _ (c.reverse.ensures.items ∙ ap reverse c.into_vec-left.ensures) c.new-reads.ensures.items c.requires
+
+pub read_block-requires : goal.read_block-requires
+read_block-requires c =
+    let l = c.loop-raw in
+    subst (λ r. IsBlockOf (alone r) c.in_ok-block.block) (sym c.raw-item.is)
+    (next_block c.args.raws.now l.raw-index c.raw-item.result l.left.items c.pop.new.self.items c.in_ok-block.block c.loop-raw-test.true
+    (popped_block l.left.items c.pop.new.self.items c.pop.result c.ok_or.result c.in_ok-block.block c.pop.ensures.items c.ok_or.ensures.ok_part c.in_ok-block.was) l.invariant.rest).0
+
+pub loop-raw-preserved : goal.loop-raw-preserved
+loop-raw-preserved c =
+    let l = c.loop-raw in
+    one_read c.args.raws.now l.raw-index c.raw-item.result l.left.items c.pop.new.self.items c.in_ok-block.block l.reads.items c.push.new.self.items c.in_ok-read.read c.loop-raw-test.true
+    (popped_block l.left.items c.pop.new.self.items c.pop.result c.ok_or.result c.in_ok-block.block c.pop.ensures.items c.ok_or.ensures.ok_part c.in_ok-block.was)
+    c.in_ok-push.ensures.items (subst (λ r. IsReadOf r c.in_ok-read.read) c.raw-item.is c.in_ok-read.ensures) l.invariant
+
+pub returns : goal.returns
+returns c = all_read c.args.raws.now c.loop-raw.raw-index c.loop-raw.left.items c.loop-raw.reads.items c.loop-raw-test.false c.loop-raw.invariant
