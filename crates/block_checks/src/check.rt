@@ -24,7 +24,7 @@ use asl_tree::program::Block;
 use asl_tree::term::Node;
 use block_outcomes::messages::both;
 use field_checks::check::list_faults;
-use form_presence::present::{Presence, present_in};
+use form_presence::present::Presence;
 use iasl_messages::message::Messages;
 use iasl_messages::number::{
     FIELD_NOT_WHOLE_BYTES, UNKNOWN_OPERATOR, WRONG_CALL_ARGUMENT_COUNT, WRONG_OBJECT_KIND,
@@ -142,7 +142,11 @@ pub fn check(alloc: Global, block: Block) -> Result<CheckedBlock, AllocError>
     ensures file { IfOk result (λ made. made.block.file ≡ block.file) }
     ensures fields { IfOk result (λ made. fields_of made.block ≡ fields_of block) }
 {
-    let NamedBlock { block, told } = name_block(alloc, block)?;
+    let NamedBlock {
+        block,
+        told,
+        present,
+    } = name_block(alloc, block)?;
     let ToldByNames {
         names,
         regions,
@@ -151,7 +155,6 @@ pub fn check(alloc: Global, block: Block) -> Result<CheckedBlock, AllocError>
     } = told;
     let width = Width::of_revision(block.revision);
     let terms = block.terms.as_slice();
-    let present = present_in(terms);
     let errors = other_errors(alloc, width, terms, present, regions, types)?;
     Ok(CheckedBlock {
         block,

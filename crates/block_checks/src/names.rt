@@ -17,6 +17,7 @@ ghost use Rattle.descriptor_checks.specs.Resolved.{checked_terms, described_path
 ghost use Rattle.descriptor_checks.specs.Resolves.{AreUses};
 ghost use Rattle.descriptor_checks.specs.Told.{checked_trees};
 ghost use Rattle.block_checks.specs.Findings.{AreNamesOf, IsNamed};
+ghost use Rattle.block_checks.specs.Present.{IsPresenceOf};
 ghost use Rattle.block_checks.specs.Told.{noted_of, told_of_names};
 
 use acpi_names::index::Index;
@@ -27,8 +28,8 @@ use asl_tree::term::{NamedDescriptor, Node};
 use block_outcomes::messages::{first_told, refusal};
 use descriptor_checks::check::{Resolved, Told, Uses, resolved_names, told_of};
 use descriptor_checks::forget::{described_paths, forget_descriptors};
-use descriptor_fields::declare::names_descriptors;
 use descriptor_fields::strip::stripped;
+use form_presence::present::{Presence, present_in};
 use iasl_messages::message::Messages;
 use name_checks::check::{Names, check_known};
 use name_kinds::known::{Known, known_of};
@@ -72,6 +73,7 @@ pub(crate) struct ToldByNames {
 struct NumberedTerms {
     terms: Vec<Node>,
     told: ToldByNames,
+    present: Presence,
 }
 
 /// A block of these terms.
@@ -79,6 +81,8 @@ struct NumberedTerms {
 pub(crate) struct NamedBlock {
     pub(crate) block: Block,
     pub(crate) told: ToldByNames,
+    /// Which forms stand in it.
+    pub(crate) present: Presence,
 }
 
 // The names that are known, or what is wrong with them.
@@ -101,17 +105,44 @@ fn right_or_wrong(alloc: Global, known: Known<'_>) -> Result<Findings, AllocErro
     }
 }
 
+// What is wrong with the accesses of fields, which is asked where fields stand.
+fn access_errors(
+    alloc: Global,
+    width: Width,
+    known: &Known<'_>,
+    present: Presence,
+) -> Result<Messages, AllocError>
+    requires terms { are_terms (trees_of known.now.terms.now) ≡ true }
+    requires known { KnowsItsTerms known.now }
+    requires present { IsPresenceOf (plans_of known.now.terms.now) present }
+    requires numbered { trees_of known.now.terms.now ≡ numbered_all 0 (plans_of known.now.terms.now) }
+    ensures { IfOk result (λ ms. ms ≡ region_errors width (trees_of known.now.terms.now) (plans_of known.now.terms.now)) }
+{
+    if present.fields {
+        region_faults(alloc, width, known)
+    } else {
+        Ok(Messages::new(alloc))
+    }
+}
+
 // What is told by the names of terms in which no descriptor has a name. What is known of the names is found once, lent to each
 // check, and let go with the terms that it borrows.
-fn ask(alloc: Global, width: Width, terms: &[Node]) -> Result<ToldByNames, AllocError>
-    requires { are_terms (trees_of terms.now) ≡ true }
+fn ask(
+    alloc: Global,
+    width: Width,
+    terms: &[Node],
+    present: Presence,
+) -> Result<ToldByNames, AllocError>
+    requires terms { are_terms (trees_of terms.now) ≡ true }
+    requires present { IsPresenceOf (plans_of terms.now) present }
+    requires numbered { trees_of terms.now ≡ numbered_all 0 (plans_of terms.now) }
     ensures names { IfOk result (λ it. IsNamed it.names (told_errors (trees_of terms.now)) (λ path. false) (trees_of terms.now)) }
     ensures regions { IfOk result (λ it. it.regions ≡ region_errors width (trees_of terms.now) (plans_of terms.now)) }
     ensures types { IfOk result (λ it. it.types ≡ types_wrong (trees_of terms.now) (plans_of terms.now)) }
     ensures notes { IfOk result (λ it. it.notes ≡ name_notes (trees_of terms.now)) }
 {
     let known = known_of(alloc, terms)?;
-    let regions = region_faults(alloc, width, &known)?;
+    let regions = access_errors(alloc, width, &known, present)?;
     let types = wrong_types(alloc, &known)?;
     let noted = notes(alloc, &known)?;
     let names = right_or_wrong(alloc, known)?;
@@ -221,16 +252,27 @@ fn named_terms(alloc: Global, width: Width, terms: Vec<Node>) -> Result<Numbered
     ensures regions { IfOk result (λ made. made.told.regions ≡ region_errors width (checked_trees ps) (checked_terms ps)) }
     ensures types { IfOk result (λ made. made.told.types ≡ types_wrong (checked_trees ps) (checked_terms ps)) }
     ensures notes { IfOk result (λ made. made.told.notes ≡ noted_of ps) }
+    ensures present { IfOk result (λ made. IsPresenceOf (plans_of made.terms.items) made.present) }
 {
-    if !names_descriptors(&terms) {
+    let present = present_in(&terms);
+    if !present.descriptors {
         let own = numbered(terms)?;
-        let told = ask(alloc, width, &own)?;
-        return Ok(NumberedTerms { terms: own, told });
+        let told = ask(alloc, width, &own, present)?;
+        return Ok(NumberedTerms {
+            terms: own,
+            told,
+            present,
+        });
     }
     let Resolved { terms, uses } = resolved_names(alloc, terms)?;
     let told = ask_described(alloc, width, &terms, uses)?;
     let terms = numbered(stripped(alloc, terms)?)?;
-    Ok(NumberedTerms { terms, told })
+    let present = present_in(&terms);
+    Ok(NumberedTerms {
+        terms,
+        told,
+        present,
+    })
 }
 
 /// A block as it is compiled: the fields of its descriptors are constants, and its nodes have their numbers. With it stands what
@@ -246,17 +288,22 @@ pub(crate) fn name_block(alloc: Global, block: Block) -> Result<NamedBlock, Allo
     ensures types { IfOk result (λ made. made.told.types ≡ types_wrong (checked_trees (plans_of block.terms.items))
         (checked_terms (plans_of block.terms.items))) }
     ensures notes { IfOk result (λ made. made.told.notes ≡ noted_of (plans_of block.terms.items)) }
+    ensures present { IfOk result (λ made. IsPresenceOf (plans_of made.block.terms.items) made.present) }
     ensures place { IfOk result (λ made. made.block.place ≡ block.place) }
     ensures file { IfOk result (λ made. made.block.file ≡ block.file) }
     ensures fields { IfOk result (λ made. fields_of made.block ≡ fields_of block) }
 {
     let mut made = block;
     let terms = replace(&mut made.terms, Vec::new(alloc));
-    let NumberedTerms { terms, told } = named_terms(
-        alloc,
-        Width::of_revision(made.revision),
+    let NumberedTerms {
         terms,
-    )?;
+        told,
+        present,
+    } = named_terms(alloc, Width::of_revision(made.revision), terms)?;
     made.terms = terms;
-    Ok(NamedBlock { block: made, told })
+    Ok(NamedBlock {
+        block: made,
+        told,
+        present,
+    })
 }

@@ -1,5 +1,5 @@
 -- What stands in a term, by its parts.
-use Rattle.std.proofs.Common.{◌≡◌, Bool, false, List, Vec, Global, sym, ap, ◌∙◌}
+use Rattle.std.proofs.Common.{◌≡◌, ℕ, Bool, false, List, Vec, Global, sym, ap, ◌∙◌}
 use Rattle.asl_tree.specs.declared.path.Path.{Path}
 use Rattle.asl_tree.specs.declared.term.Op.{Op}
 use Rattle.asl_tree.specs.declared.term.Node.{Node}
@@ -8,7 +8,10 @@ use Rattle.asl_tree.specs.declared.term.Term as D
 use Rattle.asl_tree.specs.declared.term.Term.TheVariants as V
 use Rattle.asl_shape.specs.Plans.{a_call, a_form, plan_of, plans_of}
 use Rattle.asl_shape.proofs.Plans.{plan_form, plan_call}
-use Rattle.form_presence.specs.Present.{has_op}
+use Rattle.asl_tree.specs.declared.term.NamedDescriptor.{NamedDescriptor}
+use Rattle.descriptor_fields.proofs.Terms.{one_other}
+use Rattle.form_presence.specs.Present.{has_op, is_switch, is_field, is_list, is_form}
+use Rattle.form_presence.specs.Kinds.{FormKind, ASwitch, AField, AList, ForOrPrint, ADescriptor, is_in}
 
 -- the plan of a call and of a form, by the nodes in it
 pub call_is : (t : Term) (path : Path) (args : Vec Node Global) (xs : List Node) → t ≡ D.Call path args → xs ≡ args.items → plan_of t ≡ a_call path (plans_of xs)
@@ -19,7 +22,7 @@ form_is t op args body xs ys e a b =
     ap plan_of e ∙ plan_form op args body ∙ ap (λ ns. a_form op (plans_of ns) (plans_of body.items)) (sym a) ∙ ap (λ ns. a_form op (plans_of xs) (plans_of ns)) (sym b)
 
 -- no form stands in any other term
-pub none_in_leaf : (is_such : Op → Bool) (t : Term) → ((p : Path) (v : Vec Node Global) → t ≡ D.Call p v → ⊥) → ((o : Op) (v w : Vec Node Global) → t ≡ D.Form o v w → ⊥) → has_op is_such (plan_of t) ≡ false
+none_in_leaf : (is_such : Op → Bool) (t : Term) → ((p : Path) (v : Vec Node Global) → t ≡ D.Call p v → ⊥) → ((o : Op) (v w : Vec Node Global) → t ≡ D.Form o v w → ⊥) → has_op is_such (plan_of t) ≡ false
 unfolding plan_of
 none_in_leaf is_such t not_call not_form = by_layer (D.out-Term t) (sym (D.roll-out-Term t))
   where
@@ -42,3 +45,11 @@ none_in_leaf is_such t not_call not_form = by_layer (D.out-Term t) (sym (D.roll-
     by_layer (D.Term-F.Skip n) e = ap read (e ∙ V.rolls-Skip n)
     by_layer (D.Term-F.Offset n) e = ap read (e ∙ V.rolls-Offset n)
     by_layer (D.Term-F.Access access attribute count) e = ap read (e ∙ V.rolls-Access access attribute count)
+
+-- nothing that is looked for stands in what is no template, no call and no form
+pub none_of : (kind : FormKind) (t : Term) → ((bytes : List ℕ) (named : List NamedDescriptor) → t ≡ D.Fill bytes named → ⊥) → ((p : Path) (v : Vec Node Global) → t ≡ D.Call p v → ⊥) → ((o : Op) (v w : Vec Node Global) → t ≡ D.Form o v w → ⊥) → is_in kind (plan_of t) ≡ false
+none_of ASwitch t not_fill not_call not_form = none_in_leaf is_switch t not_call not_form
+none_of AField t not_fill not_call not_form = none_in_leaf is_field t not_call not_form
+none_of AList t not_fill not_call not_form = none_in_leaf is_list t not_call not_form
+none_of ForOrPrint t not_fill not_call not_form = none_in_leaf is_form t not_call not_form
+none_of ADescriptor t not_fill not_call not_form = one_other t not_fill not_call not_form

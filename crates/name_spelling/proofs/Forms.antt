@@ -9,11 +9,13 @@ use Rattle.acpi_values.specs.Paths.{NameSeg, AbsolutePath, is_same_path}
 use Rattle.acpi_state.proofs.Lookups.{is_same_path-true}
 use Rattle.asl_tree.specs.declared.path.Path.{Path as Name}
 use Rattle.asl_tree.specs.Names.{below, enclosing, candidates, first_of, absolute, is_searched}
+use mathlib.Core.Path.{fun_ext}
+use Rattle.acpi_names.specs.Paths.{is_flagged, is_named_in, number_in}
 use Rattle.acpi_names.specs.Shortest.{segments_length, name_length, shortest, upward, unsearched, is_only, leads_to, short_use, short_element}
 use Rattle.acpi_names.proofs.Numbers.{same_path_refl}
 use Rattle.acpi_names.proofs.Shortest.{Each, each_kept, unsearched_path}
 use Rattle.name_spelling.specs.declared.form.Form.{Form}
-use Rattle.name_spelling.specs.Forms.{form_name, form_length, nearer, around, leads_alone}
+use Rattle.name_spelling.specs.Forms.{form_name, form_length, nearer, around, leads_alone, met_in}
 use Rattle.name_spelling.proofs.Spelling.{tail_of, nearest_first}
 
 -- one segment further up a path
@@ -329,3 +331,14 @@ module _ (has : AbsolutePath → Bool) where
   pub alone_untold : (path scope first : AbsolutePath) (seg : NameSeg) (outer : AbsolutePath) → path ≡ seg ∷ outer → Some first ≡ first_of (candidates has (enclosing seg scope)) → is_same_path first path ≡ false → leads_alone has path scope ≡ false
   alone_untold path scope first seg outer e found apart =
       ap (λ p. leads_alone has p scope) e ∙ alone_elsewhere seg outer scope first (sym found) (ap (is_same_path first) (sym e) ∙ apart)
+
+-- where no others stand in the way, what is met is what is named
+pub none_beside : (paths : List AbsolutePath) (named also : List Bool) → length also ≡ 0 → met_in paths named also ≡ is_named_in paths named
+none_beside paths named [] e = fun_ext (λ path. by_number (number_in paths path) (is_named_in paths named path))
+  where
+    by_number : (o : Option ℕ) (b : Bool) → (b || is_flagged [] o) ≡ b
+    by_number None true = refl
+    by_number None false = refl
+    by_number (Some n) true = refl
+    by_number (Some n) false = refl
+none_beside paths named (b ∷ bs) e = absurd (omega (arith, e))

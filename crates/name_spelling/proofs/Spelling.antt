@@ -65,7 +65,7 @@ use_placed also has name scope e = by_denoted (denoted has name scope) refl
         ap (λ c. if c then name else absolute path) (ap (is_only path) (one (met also has)) ∙ alone path (has place) (sym (ap first_of (one has)) ∙ h))
 
 -- what is found of a segment ends with it
-found_segment : (has : AbsolutePath → Bool) (seg : NameSeg) (scope path : AbsolutePath) → first_of (candidates has (enclosing seg scope)) ≡ Some path → path ≡ seg ∷ tail_of path
+pub found_segment : (has : AbsolutePath → Bool) (seg : NameSeg) (scope path : AbsolutePath) → first_of (candidates has (enclosing seg scope)) ≡ Some path → path ≡ seg ∷ tail_of path
 found_segment has seg [] path e = by_here (has (seg ∷ [])) e
   where
     by_here : (c : Bool) → first_of (if c then (seg ∷ []) ∷ [] else []) ≡ Some path → path ≡ seg ∷ tail_of path

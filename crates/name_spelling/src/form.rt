@@ -1,7 +1,7 @@
 //! The shortest spelling of a path in a scope (ACPI Specification 6.4, 5.3 and 20.2.2).
-ghost use Rattle.std.specs.Prelude.{◌≡◌, ◌<◌, ◌≤◌, ◌^◌, ◌||◌, Bool, true, false, [], length, get_or, is_some, IfOk, IfSome};
+ghost use Rattle.std.specs.Prelude.{◌≡◌, ◌<◌, ◌≤◌, ◌^◌, ◌||◌, Bool, true, false, Some, [], length, get_or, is_some, IfOk, IfSome};
 ghost use Rattle.acpi_values.specs.Paths.{AbsolutePath};
-ghost use Rattle.acpi_names.specs.Paths.{path_with};
+ghost use Rattle.acpi_names.specs.Paths.{is_named_in, path_with};
 ghost use Rattle.acpi_names.specs.Shortest.{segments_length, short_use, short_element};
 ghost use Rattle.asl_tree.specs.Names.{enclosing, candidates, first_of};
 ghost use Rattle.name_spelling.specs.Forms.{form_name, form_length, nearer, around, leads_alone, met_in};
@@ -154,15 +154,9 @@ fn is_met_around(
     }
 }
 
-/// Whether a search for a path's last segment can find that path alone: it is the only one that is met. `named` says of each number
-/// whether its path is named, and `also` of the first numbers whether their paths stand in the way all the same.
-pub(crate) fn is_found_alone(
-    paths: &Paths,
-    named: &[bool],
-    also: &[bool],
-    number: usize,
-    scope: usize,
-) -> bool
+// Whether a search for a path's last segment can find that path alone: it is the only one that is met. `named` says of each number
+// whether its path is named, and `also` of the first numbers whether their paths stand in the way all the same.
+fn is_found_alone(paths: &Paths, named: &[bool], also: &[bool], number: usize, scope: usize) -> bool
     requires path_in { number < length paths.now }
     requires scope_in { scope < length paths.now }
     requires all { length named.now ≡ length paths.now }
@@ -180,6 +174,52 @@ pub(crate) fn is_found_alone(
             }
         }
         None => false,
+    }
+}
+
+// Whether a search for a path's last segment meets no path but that one, which is the first that it meets.
+fn is_first_alone(
+    paths: &Paths,
+    named: &[bool],
+    also: &[bool],
+    number: usize,
+    scope: usize,
+    segment: NameSeg,
+) -> bool
+    requires path_in { number < length paths.now }
+    requires scope_in { scope < length paths.now }
+    requires all { length named.now ≡ length paths.now }
+    requires found { first_of (candidates (met_in paths.now named.now also.now) (enclosing segment (get_or paths.now scope [])))
+        ≡ Some (get_or paths.now number []) }
+    ensures { result ≡ leads_alone (met_in paths.now named.now also.now) (get_or paths.now number []) (get_or paths.now scope []) }
+{
+    match paths.step(number) {
+        Some(below) => !is_met_around(paths, named, also, below.0, segment),
+        None => false,
+    }
+}
+
+/// Whether a search for a segment, which finds this path among those that are named, can find it alone: no other path is met. `named` says
+/// of each number whether its path is named, and `also` of the first numbers whether their paths stand in the way all the same.
+pub(crate) fn is_alone(
+    paths: &Paths,
+    named: &[bool],
+    also: &[bool],
+    number: usize,
+    scope: usize,
+    segment: NameSeg,
+) -> bool
+    requires path_in { number < length paths.now }
+    requires scope_in { scope < length paths.now }
+    requires all { length named.now ≡ length paths.now }
+    requires found { first_of (candidates (is_named_in paths.now named.now) (enclosing segment (get_or paths.now scope [])))
+        ≡ Some (get_or paths.now number []) }
+    ensures { result ≡ leads_alone (met_in paths.now named.now also.now) (get_or paths.now number []) (get_or paths.now scope []) }
+{
+    if also.is_empty() {
+        is_first_alone(paths, named, also, number, scope, segment)
+    } else {
+        is_found_alone(paths, named, also, number, scope)
     }
 }
 

@@ -7,7 +7,7 @@ ghost use Rattle.asl_tree.specs.Names.{absolute, declared_path, single_segment};
 ghost use Rattle.acpi_names.specs.Shortest.{spelled_use, spelled_item};
 ghost use Rattle.asl_meaning.specs.Declarations.{written_type, external_object};
 
-use crate::form::{is_found_alone, name_in, shortest_placed, shortest_used};
+use crate::form::{is_alone, name_in, shortest_placed, shortest_used};
 use acpi_names::index::Index;
 use acpi_names::lookup::{denotes, find, from_root, prefixed, single};
 use acpi_names::paths::{Paths, nearest};
@@ -30,7 +30,7 @@ fn ambiguous(
 {
     let segment = single(name)?;
     let number = nearest(paths, named, scope, segment)?;
-    if is_found_alone(paths, named, also, number, scope) {
+    if is_alone(paths, named, also, number, scope, segment) {
         None
     } else {
         Some(number)

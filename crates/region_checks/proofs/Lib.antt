@@ -4,3 +4,4 @@ pub mod Forms
 pub mod Nodes
 pub mod Walks
 pub mod Places
+pub mod Absent

@@ -1,14 +1,16 @@
 -- The errors of a term by its parts.
-use Rattle.std.proofs.Common.{◌≡◌, ℕ, ◌+◌, ◌++◌, List, [], ◌∷◌, length, Bool, Vec, Global, append_assoc, append-nil, sym, ap, ◌∙◌, arith}
+use Rattle.std.proofs.Common.{◌≡◌, ℕ, ◌+◌, ◌++◌, List, [], ◌∷◌, length, Bool, Vec, Global, append_assoc, append-nil, refl, sym, ap, ◌∙◌, arith}
 use Rattle.iasl_messages.specs.declared.place.Place.{Place}
 use Rattle.iasl_messages.specs.declared.message.Message.{Message}
 use Rattle.asl_tree.specs.declared.path.Path.{Path}
 use Rattle.asl_tree.specs.declared.term.Op.{Op}
+use Rattle.asl_tree.specs.declared.term.Control.{Control}
+use Rattle.asl_tree.specs.declared.term.Declaration.{Declaration}
 use Rattle.asl_tree.specs.declared.term.Node.{Node}
 use Rattle.asl_tree.specs.declared.term.Term.{Term}
 use Rattle.asl_tree.specs.declared.term.Term as D
 use Rattle.asl_tree.specs.declared.term.Term.TheVariants as V
-use Rattle.asl_shape.specs.Plans.{a_call, a_form, plan_of, plans_of, number_of}
+use Rattle.asl_shape.specs.Plans.{Plans, a_call, a_form, plan_of, plans_of, number_of}
 use Rattle.asl_shape.proofs.Plans.{plan_form, plan_call}
 use Rattle.asl_shape.proofs.Settled.{number_form, number_call}
 use Rattle.asl_numbers.specs.Numbers.{inside, nodes}
@@ -81,22 +83,34 @@ pub inside_form : (t : Term) (op : Op) (args body : Vec Node Global) (xs ys : Li
 inside_form t op args body xs ys e a b = ap inside (form_is t op args body xs ys e a b)
 
 -- the messages of a form, one part after another
-pub form_told : (around inner : Around) (place : Place) (t : Term) (op : Op) (args body : Vec Node Global) (xs ys zs : List Node) (wrong : Bool) (old own first new : List Message)
-    → t ≡ D.Form op args body → xs ≡ args.items → ys ≡ body.items → zs ≡ args.items
-    → wrong ≡ misses_loop op around → inner ≡ around_body op (plans_of zs) around
-    → own ≡ old ++ told wrong 6052 place → first ≡ own ++ statement_errors around (plans_of xs) → new ≡ first ++ statement_errors inner (plans_of ys)
-    → new ≡ old ++ term_errors around place (plan_of t)
-form_told around inner place t op args body xs ys zs wrong old own first new e a b a' w i p q r =
+pub form_told : (around inner : Around) (place : Place) (op : Op) (args body : Plans) (wrong : Bool) (old own first new : List Message)
+    → wrong ≡ misses_loop op around → inner ≡ around_body op args around
+    → own ≡ old ++ told wrong 6052 place → first ≡ own ++ statement_errors around args → new ≡ first ++ statement_errors inner body
+    → new ≡ old ++ term_errors around place (a_form op args body)
+form_told around inner place op args body wrong old own first new w i p q r =
     let mine = told (misses_loop op around) 6052 place in
-    let before = statement_errors around (plans_of xs) in
-    let after = statement_errors (around_body op (plans_of xs) around) (plans_of ys) in
+    let before = statement_errors around args in
+    let after = statement_errors (around_body op args around) body in
     let start : own ≡ old ++ mine = p ∙ ap (λ b. old ++ told b 6052 place) w in
-    let within : inner ≡ around_body op (plans_of xs) around = i ∙ ap (λ ns. around_body op (plans_of ns) around) (a' ∙ sym a) in
-    r ∙ ap (λ k. first ++ statement_errors k (plans_of ys)) within
+    r ∙ ap (λ k. first ++ statement_errors k body) i
     ∙ ap (λ ms. ms ++ after) (q ∙ ap (λ ms. ms ++ before) start ∙ append_assoc old mine before)
     ∙ append_assoc old (mine ++ before) after
     ∙ ap (λ ms. old ++ ms) (append_assoc mine before after)
-    ∙ ap (λ x. old ++ term_errors around place x) (sym (form_is t op args body xs ys e a b))
+
+-- the same of a form in which the terms stand in what it stands in itself
+pub plain_told : (around : Around) (all old first new : List Message) (args body : Plans) → all ≡ statement_errors around args ++ statement_errors around body
+    → first ≡ old ++ statement_errors around args → new ≡ first ++ statement_errors around body → new ≡ old ++ all
+plain_told around all old first new args body e q r =
+    let before = statement_errors around args in
+    let after = statement_errors around body in
+    r ∙ ap (λ ms. ms ++ after) q ∙ append_assoc old before after ∙ ap (λ ms. old ++ ms) (sym e)
+
+-- what is no declaration and no statement
+pub plain_form : (op : Op) → ((d : Declaration) → op ≡ Op.Declaration d → ⊥) → ((k : Control) → op ≡ Op.Control k → ⊥) → (place : Place) (args body : Plans) (around : Around)
+    → term_errors around place (a_form op args body) ≡ statement_errors around args ++ statement_errors around body
+plain_form (Op.Declaration d) not_declaration not_control place args body around = absurd (not_declaration d refl)
+plain_form (Op.Control k) not_declaration not_control place args body around = absurd (not_control k refl)
+plain_form op not_declaration not_control place args body around = refl
 
 -- nothing is told of no terms
 pub none_behind : (around : Around) (ns : List Node) (ms : List Message) → length ns ≡ 0 → ms ≡ ms ++ statement_errors around (plans_of ns)

@@ -1,6 +1,8 @@
 //! Loops and Switches that are left, and arguments of methods, checked.
-ghost use Rattle.std.specs.Prelude.{◌≡◌, ◌%◌, ◌++◌, true, IfOk, OnOk};
-ghost use Rattle.asl_shape.specs.Plans.{plan_at, plan_of, plans_of, number_of};
+ghost use Rattle.std.specs.Prelude.{◌≡◌, ◌%◌, ◌++◌, true, false, IfOk, OnOk};
+ghost use Rattle.iasl_messages.specs.declared.place.Place.{Place as PlaceOfNode};
+ghost use Rattle.asl_shape.specs.Plans.{Plans, a_form, plan_at, plan_of, plans_of, number_of};
+ghost use Rattle.statement_checks.specs.declared.check.Around.{Around as AroundTerm};
 ghost use Rattle.statement_checks.specs.Statements as spec;
 
 use asl_tree::term::{Control, Declaration, Node, Op, Term};
@@ -126,8 +128,68 @@ fn tell_if(
     Ok(())
 }
 
+// Whether a form is a declaration or a statement: the terms of any other form stand in what the form itself stands in.
+fn is_statement(op: Op) -> bool
+    ensures { result ≡ false → (place : PlaceOfNode) (args body : Plans) (around : AroundTerm) →
+        spec.term_errors around place (a_form op args body) ≡ spec.statement_errors around args ++ spec.statement_errors around body }
+{
+    matches!(op, Op::Declaration(_) | Op::Control(_))
+}
+
+// The errors of a declaration or a statement: its own, then those of its arguments, then those of its body.
+#[cycle(walk)]
+#[inline(never)]
+fn form_errors(
+    alloc: Global,
+    out: &mut Messages,
+    place: Place,
+    op: Op,
+    args: &[Node],
+    body: &[Node],
+    around: &Around,
+) -> Result<(), AllocError>
+    ensures { OnOk result (out.new ≡ out.old ++ spec.term_errors around.now place (a_form op (plans_of args.now) (plans_of body.now))) }
+{
+    tell_if(alloc, out, misses_loop(op, *around), number::NO_LOOP, place)?;
+    all_errors(alloc, out, args, around)?;
+    if body.is_empty() {
+        return Ok(());
+    }
+    let inner = around_body(op, args, *around);
+    all_errors(alloc, out, body, &inner)?;
+    Ok(())
+}
+
+// The errors of a form.
+#[cycle(walk)]
+#[inline(always)]
+fn errors_in_form(
+    alloc: Global,
+    out: &mut Messages,
+    node: &Node,
+    op: Op,
+    args: &[Node],
+    body: &[Node],
+    around: &Around,
+) -> Result<(), AllocError>
+    ensures { OnOk result (out.new ≡ out.old
+        ++ spec.term_errors around.now node.now.place (a_form op (plans_of args.now) (plans_of body.now))) }
+{
+    if is_statement(op) {
+        form_errors(alloc, out, node.place, op, args, body, around)?;
+        return Ok(());
+    }
+    all_errors(alloc, out, args, around)?;
+    if body.is_empty() {
+        return Ok(());
+    }
+    all_errors(alloc, out, body, around)?;
+    Ok(())
+}
+
 // The errors of a term: its own, then those of its arguments, then those of its body.
 #[cycle(walk)]
+#[inline(always)]
 fn term_errors(
     alloc: Global,
     out: &mut Messages,
@@ -147,14 +209,7 @@ fn term_errors(
             Ok(())
         }
         Term::Form { op, args, body } => {
-            let wrong = misses_loop(*op, *around);
-            tell_if(alloc, out, wrong, number::NO_LOOP, node.place)?;
-            all_errors(alloc, out, args, around)?;
-            if body.is_empty() {
-                return Ok(());
-            }
-            let inner = around_body(*op, args, *around);
-            all_errors(alloc, out, body, &inner)?;
+            errors_in_form(alloc, out, node, *op, args, body, around)?;
             Ok(())
         }
         _ => Ok(()),

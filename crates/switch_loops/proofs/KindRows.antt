@@ -23,7 +23,9 @@ use Rattle.acpi_names.specs.declared.part.Shape.{Shape}
 use Rattle.acpi_names.specs.declared.part.Shape.TheVariants as S
 use Rattle.hidden_locals.specs.Switches.{depth_all, are_crossed}
 use Rattle.hidden_locals.specs.Crossing.{have_continue}
-use Rattle.switch_loops.specs.Kinds.{form_kind, shape_kind}
+use Rattle.acpi_names.specs.Parts.{fitting}
+use Rattle.acpi_names.specs.declared.part.NameRole.TheVariants as P
+use Rattle.switch_loops.specs.Kinds.{flagged, part_kind, form_kind, shape_kind}
 use Rattle.switch_loops.specs.Measures.{capped, measured, measured_one, nothing, around}
 use Rattle.switch_loops.specs.declared.kind.TermRole.{TermRole}
 use Rattle.switch_loops.specs.declared.measure.Measure.{Measure}
@@ -247,3 +249,19 @@ measured_other node shape e never = by_shape shape never ∙ ap measured_by e �
     by_shape (S.Name path) never = refl
     by_shape (S.Call path args) never = refl
     by_shape S.Other never = refl
+
+-- ---- statements by their parts
+
+pub within_kind : (b : Bool) → part_kind (fitting b P.Within) ≡ flagged b TermRole.Block
+within_kind true = refl
+within_kind false = refl
+
+pub returns_kind : (b : Bool) → part_kind (fitting b P.Returns) ≡ TermRole.Other
+returns_kind true = refl
+returns_kind false = refl
+
+pub prints_kind : (b : Bool) → part_kind (fitting b P.Prints) ≡ TermRole.Other
+prints_kind true = refl
+prints_kind false = refl
+
+pub ruleset statement_rules = (within_kind, returns_kind, prints_kind)

@@ -19,3 +19,4 @@ pub mod InPlace
 pub mod Findings
 pub mod Switchless
 pub mod Unneeded
+pub mod StandRows

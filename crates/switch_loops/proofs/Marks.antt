@@ -13,7 +13,7 @@ use Rattle.acpi_names.proofs.Telling.{trees_at, no_more}
 use Rattle.hidden_locals.specs.Locals.{is_named, locals, locals_all}
 use Rattle.hidden_locals.specs.Turns.{nth, others}
 use Rattle.hidden_locals.specs.Switches.{depth_all, is_enough}
-use Rattle.switch_loops.specs.Measures.{capped, measured}
+use Rattle.switch_loops.specs.Measures.{capped, measured, suffices}
 use Rattle.switch_loops.specs.declared.measure.Measure.{Measure}
 use Rattle.std.proofs.lemmas.List.{append-nil}
 use Rattle.switch_loops.specs.Reads.{marked, marked_all, none_named, is_marked, letter_names, is_constant, operand_locals, others_of}
@@ -31,12 +31,12 @@ nat_eq_suc i j = by_same (nat_eq i j) refl
     by_same true h = grind (arith, nat_tests, h)
     by_same false h = grind (arith, nat_tests, h)
 
-marked_length : (named : List Bool) (j : ℕ) → length (marked named j) ≡ length named
+pub marked_length : (named : List Bool) (j : ℕ) → length (marked named j) ≡ length named
 marked_length [] j = refl
 marked_length (b ∷ bs) zero = refl
 marked_length (b ∷ bs) (suc j) = ap suc (marked_length bs j)
 
-one_marked : (named : List Bool) (j i : ℕ) → i < length named → is_marked (marked named j) i ≡ (nat_eq i j || is_marked named i)
+pub one_marked : (named : List Bool) (j i : ℕ) → i < length named → is_marked (marked named j) i ≡ (nat_eq i j || is_marked named i)
 one_marked [] j i lt = absurd (omega (arith, lt))
 one_marked (b ∷ bs) zero zero lt = let e : true ≡ nat_eq 0 0 = grind (arith, nat_tests) in ap (λ c. c || b) e
 one_marked (b ∷ bs) zero (suc i) lt = let e : false ≡ nat_eq (suc i) 0 = grind (arith, nat_tests) in ap (λ c. c || is_marked bs i) e
@@ -241,14 +241,21 @@ few_others ls = subst (λ xs. length xs ≤ 8) (others_are ls) (others_length (m
 left_are : (ls : List ℕ) (named : List Bool) (left : ℕ) → named ≡ marked_all none_named ls → left ≡ length (others_of named) → left ≡ length (others ls)
 left_are ls named left en el = el ∙ ap (λ n. length (others_of n)) en ∙ ap length (others_are ls)
 
-pub enough_then : (body : Trees) (found : Measure) (named : List Bool) (left : ℕ) → found ≡ measured body → named ≡ marked_all none_named (locals_all body) → left ≡ length (others_of named) → found.crossed ≡ true
+enough_then : (body : Trees) (found : Measure) (named : List Bool) (left : ℕ) → found ≡ measured body → named ≡ marked_all none_named (locals_all body) → left ≡ length (others_of named) → found.crossed ≡ true
     → nat_lt found.levels left ≡ is_enough body
 enough_then body found named left em en el h =
     ap (λ (m : Measure). nat_lt m.levels left) em ∙ enough_crossed (depth_all body) left (length (others (locals_all body))) (few_others (locals_all body)) (left_are (locals_all body) named left en el)
     ∙ ap (λ b. nat_le (depth_all body + (if b then 1 else 0)) (length (others (locals_all body)))) (sym h ∙ ap (λ (m : Measure). m.crossed) em)
 
-pub enough_else : (body : Trees) (found : Measure) (named : List Bool) (left : ℕ) → found ≡ measured body → named ≡ marked_all none_named (locals_all body) → left ≡ length (others_of named) → found.crossed ≡ false
+enough_else : (body : Trees) (found : Measure) (named : List Bool) (left : ℕ) → found ≡ measured body → named ≡ marked_all none_named (locals_all body) → left ≡ length (others_of named) → found.crossed ≡ false
     → nat_le found.levels left ≡ is_enough body
 enough_else body found named left em en el h =
     ap (λ (m : Measure). nat_le m.levels left) em ∙ enough_uncrossed (depth_all body) left (length (others (locals_all body))) (few_others (locals_all body)) (left_are (locals_all body) named left en el)
     ∙ ap (λ b. nat_le (depth_all body + (if b then 1 else 0)) (length (others (locals_all body)))) (sym h ∙ ap (λ (m : Measure). m.crossed) em)
+
+pub enough_named : (body : Trees) (found : Measure) (named : List Bool) (left : ℕ) → found ≡ measured body → named ≡ marked_all none_named (locals_all body) → left ≡ length (others_of named) → suffices found left ≡ is_enough body
+enough_named body found named left em en el = by_crossed found.crossed refl
+  where
+    by_crossed : (c : Bool) → found.crossed ≡ c → (if c then nat_lt found.levels left else nat_le found.levels left) ≡ is_enough body
+    by_crossed true h = enough_then body found named left em en el h
+    by_crossed false h = enough_else body found named left em en el h

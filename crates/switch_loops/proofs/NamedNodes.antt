@@ -15,7 +15,7 @@ use Rattle.switch_loops.specs.Reads.{marked, marked_all, form_locals, reads_of}
 use Rattle.switch_loops.proofs.LocalRows.{named_form}
 use Rattle.switch_loops.proofs.Marks.{marked-append}
 
-local_is : (at : At) (t : Term) (i : ℕ) → t ≡ D.Local i → locals (tree_of at t) ≡ i ∷ []
+pub local_is : (at : At) (t : Term) (i : ℕ) → t ≡ D.Local i → locals (tree_of at t) ≡ i ∷ []
 unfolding tree_of
 local_is at t i e = ap (λ t. locals (tree_of at t)) e
 
@@ -52,9 +52,8 @@ others_named at (D.Form' op shape args shape' body) e = absurd (grind arith)
 others_named at (D.Arg i) e = refl
 others_named at t e = refl
 
-pub other_named : (node : Node) (found : List Bool) → ((i : ℕ) → node.term ≡ D.Local i → ⊥) → ((p : Path) (v : Vec Node Global) → node.term ≡ D.Call p v → ⊥) → ((o : Op) (v w : Vec Node Global) → node.term ≡ D.Form o v w → ⊥) → found ≡ marked_all found (locals (node_tree node))
-other_named node found not_local not_call not_form =
-    sym (ap (marked_all found) (others_named (record { id = node.id; place = node.place }) node.term (by_layer (D.out-Term node.term) (sym (D.roll-out-Term node.term)))))
+pub no_locals : (node : Node) → ((i : ℕ) → node.term ≡ D.Local i → ⊥) → ((p : Path) (v : Vec Node Global) → node.term ≡ D.Call p v → ⊥) → ((o : Op) (v w : Vec Node Global) → node.term ≡ D.Form o v w → ⊥) → locals (node_tree node) ≡ []
+no_locals node not_local not_call not_form = others_named (record { id = node.id; place = node.place }) node.term (by_layer (D.out-Term node.term) (sym (D.roll-out-Term node.term)))
   where
     by_layer : (f : D.Term-F Term Node) → node.term ≡ D.roll-Term f → is_other node.term ≡ true
     by_layer (D.Term-F.Call p v) e = absurd (not_call p v (e ∙ V.rolls-Call p v))
@@ -72,3 +71,6 @@ other_named node found not_local not_call not_form =
     by_layer (D.Term-F.Skip n) e = ap is_other (e ∙ V.rolls-Skip n)
     by_layer (D.Term-F.Offset n) e = ap is_other (e ∙ V.rolls-Offset n)
     by_layer (D.Term-F.Access access attribute count) e = ap is_other (e ∙ V.rolls-Access access attribute count)
+
+pub other_named : (node : Node) (found : List Bool) → ((i : ℕ) → node.term ≡ D.Local i → ⊥) → ((p : Path) (v : Vec Node Global) → node.term ≡ D.Call p v → ⊥) → ((o : Op) (v w : Vec Node Global) → node.term ≡ D.Form o v w → ⊥) → found ≡ marked_all found (locals (node_tree node))
+other_named node found not_local not_call not_form = sym (ap (marked_all found) (no_locals node not_local not_call not_form))

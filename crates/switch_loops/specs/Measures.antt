@@ -1,5 +1,5 @@
 -- How deep Switches nest in terms, and whether a Continue leaves one of them.
-use Rattle.std.specs.Prelude.{ℕ, min, max, ◌+◌, true, false, ◌||◌}
+use Rattle.std.specs.Prelude.{ℕ, min, max, ◌+◌, nat_le, nat_lt, Bool, true, false, ◌||◌, if◌then◌else◌}
 use Rattle.asl_tree.specs.Tree.{Tree, Trees}
 use Rattle.hidden_locals.specs.Crossing.{has_continue, have_continue}
 use Rattle.hidden_locals.specs.Switches.{depth, depth_all, is_crossed, are_crossed}
@@ -33,3 +33,7 @@ around TermRole.Default m = m
 around TermRole.Method m = nothing
 around TermRole.Continue m = record { levels = 0; crossed = false; continues = true }
 around TermRole.Other m = nothing
+
+-- whether so many Locals are enough for what is measured: one for each level, and one more where a Continue leaves a Switch
+abbrev pub suffices : Measure → ℕ → Bool
+suffices m left = if m.crossed then nat_lt m.levels left else nat_le m.levels left

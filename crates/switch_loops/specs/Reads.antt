@@ -1,5 +1,6 @@
 -- The Locals that the forms of terms name.
-use Rattle.std.specs.Prelude.{ℕ, Bool, true, false, not, if◌then◌else◌, List, [], ◌∷◌, ◌++◌, filter, set, Option, Some, None, slice_get}
+use Rattle.std.specs.Prelude.{◌≡◌, ◌<◌, ℕ, length, Bool, true, false, not, if◌then◌else◌, List, [], ◌∷◌, ◌++◌, filter, set, Option, Some}
+use Rattle.std.specs.Prelude.{None, slice_get}
 use Rattle.acpi_values.specs.Operators.{row_of}
 use Rattle.acpi_values.specs.Operators as L
 use Rattle.acpi_state.specs.Outcomes.{choose}
@@ -13,7 +14,7 @@ use Rattle.acpi_names.specs.declared.part.ValueForm.{ValueForm}
 use Rattle.acpi_names.specs.declared.part.ValueForm.TheVariants as V
 use Rattle.acpi_names.specs.Parts.{is_item_list, part_of}
 use Rattle.acpi_names.specs.Walked.{value_form_of}
-use Rattle.hidden_locals.specs.Locals.{locals, locals_all}
+use Rattle.hidden_locals.specs.Locals.{is_named, locals, locals_all}
 use Rattle.switch_loops.specs.declared.locals.Reads.{Reads}
 
 -- ---- eight marks, one for each Local
@@ -33,6 +34,12 @@ is_marked named i = choose (slice_get named i) false (λ b. b)
 
 abbrev pub others_of : List Bool → List ℕ
 others_of named = filter (λ i. not (is_marked named i)) (0 ∷ 1 ∷ 2 ∷ 3 ∷ 4 ∷ 5 ∷ 6 ∷ 7 ∷ [])
+
+-- what is marked stays so, and the Locals of a list are marked, perhaps with others
+pub record Marks (before : List Bool) (ls : List ℕ) (after : List Bool) : Type 0 where
+  pub size : length after ≡ length before
+  pub kept : (i : ℕ) → is_marked before i ≡ true → is_marked after i ≡ true
+  pub named : (i : ℕ) → i < length before → is_named ls i ≡ true → is_marked after i ≡ true
 
 -- ---- what of a form may name Locals
 

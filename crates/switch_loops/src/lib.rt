@@ -12,4 +12,5 @@ mod made;
 mod measure;
 mod spare;
 mod split;
+mod standing;
 pub mod switched;

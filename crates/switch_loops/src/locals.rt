@@ -25,14 +25,15 @@ pub struct Locals {
 }
 
 impl Locals {
-    fn none() -> Locals
+    /// No Local is named.
+    pub(crate) fn none() -> Locals
         ensures { result.named ≡ none_named }
     {
         Locals { named: [false; 8] }
     }
 
-    // From now on a Local is named.
-    fn mark(&mut self, index: u8)
+    /// From now on a Local is named.
+    pub(crate) fn mark(&mut self, index: u8)
         ensures { self.new.named ≡ marked self.old.named index }
     {
         let index = usize::from(index);

@@ -6,3 +6,4 @@ pub mod Fitting
 pub mod Listing
 pub mod Absent
 pub mod AnyKind
+pub mod Enough

@@ -1,6 +1,6 @@
 -- The kinds that arguments take and that expressions have (ACPI Specification 6.4, 19.2 and 19.6).
-use Rattle.std.specs.Prelude.{ℕ, suc, ◌+◌, nat_lt, if◌then◌else◌, Bool, true, false, List, [], ◌∷◌, get_or, slice_get, unwrap_or, Option}
-use Rattle.std.specs.Prelude.{Some, None}
+use Rattle.std.specs.Prelude.{ℕ, suc, ◌+◌, nat_lt, if◌then◌else◌, Bool, true, false, not, List, [], ◌∷◌, get_or, slice_get, unwrap_or}
+use Rattle.std.specs.Prelude.{Option, Some, None}
 use Rattle.acpi_values.specs.declared.operator.DataOp.TheVariants as DataOp
 use Rattle.acpi_values.specs.declared.operator.EventOp.TheVariants as EventOp
 use Rattle.acpi_values.specs.declared.operator.Plain.{Plain}
@@ -111,6 +111,22 @@ wanted_of (Some (Op.Symbolic (Symbolic.Operator op))) place = operand op place
 wanted_of (Some (Op.Symbolic (Symbolic.AssignBy op))) place = operand (compound_operator op) place
 wanted_of (Some op) place = form_argument op place
 
+-- the operators of which an operand is asked for more than data
+abbrev pub asks_more : Plain → Bool
+asks_more (Plain.Data DataOp.ConcatenateResTemplate) = true
+asks_more (Plain.Data DataOp.ToString) = true
+asks_more (Plain.Data DataOp.Mid) = true
+asks_more (Plain.Data DataOp.Index) = true
+asks_more (Plain.Data DataOp.Match) = true
+asks_more (Plain.Event EventOp.Notify) = true
+asks_more op = false
+
+-- whether no argument of a form is asked for more than data
+abbrev pub asks_data : Option Op → Bool
+asks_data (Some (Op.Plain op)) = not (asks_more op)
+asks_data (Some (Op.Symbolic (Symbolic.Operator op))) = not (asks_more op)
+asks_data asker = true
+
 -- ---- what expressions have
 
 abbrev pub any_data : List ValueKind
@@ -197,6 +213,22 @@ leaf_kinds in_place object (a_text bytes) = K.String ∷ []
 leaf_kinds in_place object debug = K.Debug ∷ []
 leaf_kinds in_place object (a_name name) = name_kinds in_place object
 leaf_kinds in_place object p = any_data
+
+-- whether a form gives data by its operator alone
+abbrev pub gives_data : Op → Bool
+gives_data (Op.Plain (Plain.Data DataOp.Store)) = false
+gives_data (Op.Plain (Plain.Data DataOp.CopyObject)) = false
+gives_data (Op.Plain (Plain.Data DataOp.Mid)) = false
+gives_data (Op.Symbolic Symbolic.Assign) = false
+gives_data (Op.Special Special.Package) = false
+gives_data op = true
+
+-- whether an expression is data by what it is alone
+abbrev pub is_data : Plan → Bool
+is_data (a_form op args body) = gives_data op
+is_data (a_name name) = false
+is_data debug = false
+is_data p = true
 
 -- `names` says what stands where the name at a node leads, by the number of the node
 module _ (names : ℕ → Named) where

@@ -6,11 +6,13 @@ ghost use Rattle.asl_shape.specs.Plans.{plan_of, plans_of};
 ghost use Rattle.asl_numbers.specs.Numbers.{inside, nodes as node_count};
 ghost use Rattle.name_kinds.specs.Known.{KnowsItsTerms};
 ghost use Rattle.type_checks.specs.Kinds.{any_data as any_kinds, given, kinds_all, kinds_of, leaf_kinds as kinds_of_leaf};
+ghost use Rattle.type_checks.specs.Kinds.{asks_data as no_more_asked, is_data as data_alone, wanted_of as wants_at};
 ghost use Rattle.type_checks.specs.Names.{listed};
 ghost use Rattle.type_checks.specs.Types as spec;
 
 use crate::kind::{
-    ValueKind, Wanted, any_data, form_kinds, given_on, is_place, name_kinds, takes_one, wanted_of,
+    ValueKind, Wanted, any_data, asks_data, form_kinds, given_on, gives_data, is_place, name_kinds,
+    takes_one, wanted_of,
 };
 use crate::names::all_named;
 use asl_tree::term::{Node, Op, Term};
@@ -210,8 +212,52 @@ fn argument_errors(
     }
 }
 
+// Whether an expression is data by what it is alone.
+#[tactic(auto, using(crate::proofs::Enough::data_rules))]
+fn is_data(term: &Term) -> bool
+    ensures { result ≡ data_alone (plan_of term.now) }
+{
+    match term {
+        Term::Form { op, .. } => gives_data(*op),
+        Term::Name(_) => false,
+        Term::Debug => false,
+        _ => true,
+    }
+}
+
+// The error of the argument at a place, whose node has this number. What is data by what it is alone is right wherever no more than
+// that is asked for.
+#[inline(always)]
+fn place_errors(
+    alloc: Global,
+    out: &mut Messages,
+    names: &[Named],
+    asker: Option<Op>,
+    enough: bool,
+    at: usize,
+    number: u32,
+    node: &Node,
+) -> Result<(), AllocError>
+    requires { enough ≡ no_more_asked asker }
+    ensures { OnOk result
+        (out.new ≡ out.old
+        ++ spec.argument_errors (listed names.now) (wants_at asker at) number node.now.place (plan_of node.now.term)) }
+{
+    match asker {
+        None => Ok(()),
+        _ => {
+            if enough && is_data(&node.term) {
+                return Ok(());
+            }
+            argument_errors(alloc, out, names, wanted_of(asker, at), number, node)?;
+            Ok(())
+        }
+    }
+}
+
 // The errors inside a term, whose first node inside has this number; and the number behind the last.
 #[cycle(walk)]
+#[inline(always)]
 fn errors_inside(
     alloc: Global,
     out: &mut Messages,
@@ -252,10 +298,11 @@ fn errors_of(
     ensures next { IfOk result (λ n. n ≡ first + node_count (plans_of nodes.now)) }
     ensures told { OnOk result (out.new ≡ out.old ++ spec.errors_of (listed names.now) asker 0 first (plans_of nodes.now)) }
 {
+    let enough = asks_data(asker);
     let mut next = first;
     for at in 0..nodes.len() {
         let node = &nodes[at];
-        argument_errors(alloc, out, names, wanted_of(asker, at), next, node)?;
+        place_errors(alloc, out, names, asker, enough, at, next, node)?;
         next = errors_inside(alloc, out, names, after(next)?, &node.term)?;
     }
     Ok(next)

@@ -229,6 +229,45 @@ pub fn wanted_of(asker: Option<Op>, place: usize) -> Wanted
     }
 }
 
+// Whether an operand of an operator is asked for more than data.
+fn asks_more(op: Plain) -> bool
+    ensures { result ≡ spec.asks_more op }
+{
+    matches!(
+        op,
+        Plain::Data(
+            DataOp::ConcatenateResTemplate
+                | DataOp::ToString
+                | DataOp::Mid
+                | DataOp::Index
+                | DataOp::Match
+        ) | Plain::Event(EventOp::Notify)
+    )
+}
+
+/// Whether no argument of a form is asked for more than data.
+pub(crate) fn asks_data(asker: Option<Op>) -> bool
+    ensures { result ≡ spec.asks_data asker }
+{
+    match asker {
+        Some(Op::Plain(op)) => !asks_more(op),
+        Some(Op::Symbolic(Symbolic::Operator(op))) => !asks_more(op),
+        _ => true,
+    }
+}
+
+/// Whether a form gives data by its operator alone.
+pub(crate) fn gives_data(op: Op) -> bool
+    ensures { result ≡ spec.gives_data op }
+{
+    match op {
+        Op::Plain(Plain::Data(DataOp::Store | DataOp::CopyObject | DataOp::Mid)) => false,
+        Op::Symbolic(Symbolic::Assign) => false,
+        Op::Special(Special::Package) => false,
+        _ => true,
+    }
+}
+
 /// The kinds of data.
 pub fn any_data() -> &'static [ValueKind]
     ensures { result.now ≡ spec.any_data }

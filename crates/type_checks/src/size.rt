@@ -129,6 +129,7 @@ fn list_errors(
 }
 
 // The error of a form itself, which is one only of what lists something.
+#[inline(always)]
 fn size_errors(
     alloc: Global,
     width: Width,
@@ -151,6 +152,7 @@ fn size_errors(
 
 // The errors of a term: its own, then those of its arguments, then those of its body.
 #[cycle(lists)]
+#[inline(always)]
 fn term_errors(
     alloc: Global,
     width: Width,

@@ -1,4 +1,4 @@
-use Rattle.std.proofs.Common.{◌≡◌, ap, ◌∙◌, subst}
+use Rattle.std.proofs.Common.{◌≡◌, sym, ap, ◌∙◌, subst}
 use Rattle.acpi_values.specs.Revisions.{width_of}
 use Rattle.acpi_values.specs.declared.width.Width.{Width}
 use Rattle.aml_code.specs.Header.{HeaderFields}
@@ -26,11 +26,4 @@ returns-clause-errors c =
     ∙ ap (others_of width (resolved_terms ps) (region_errors width (checked_trees ps) (checked_terms ps))) is.types
 
 pub other_errors-requires : goal.other_errors-requires
-other_errors-requires c =
-    let is = c.present_in-present.ensures in record { switches = is.switches; fields = is.fields; lists = is.lists; forms = is.forms; nodes = is.nodes }
-
-pub returns-clause-present : goal.returns-clause-present
-returns-clause-present c =
-    let is = c.present_in-present.ensures in
-    subst (λ ns. IsPresenceOf (plans_of ns) c.present_in-present.result) c.as_slice-terms.ensures.value
-    (record { switches = is.switches; fields = is.fields; lists = is.lists; forms = is.forms; nodes = is.nodes })
+other_errors-requires c = subst (λ ns. IsPresenceOf (plans_of ns) c.in_ok-block.field-0.present) (sym c.as_slice-terms.ensures.value) c.in_ok-block.ensures.present

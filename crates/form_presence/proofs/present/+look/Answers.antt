@@ -1,12 +1,14 @@
-use Rattle.std.proofs.Common.{◌+◌, sym, ap, refl, subst, arith}
-use Rattle.asl_shape.specs.Plans.{a_call, a_form, plans_of}
+use Rattle.std.proofs.Common.{◌≡◌, ◌+◌, length, sym, ap, ◌∙◌, refl, subst, arith}
+use Rattle.std.specs.Prelude.{◌||◌}
+use Rattle.asl_shape.specs.Plans.{a_call, a_form, plan_of, plans_of}
+use Rattle.asl_shape.proofs.Terms.{fill_term}
 use Rattle.asl_numbers.specs.Numbers.{inside}
 use Rattle.asl_numbers.proofs.Loops.{smaller}
 use Rattle.asl_numbers.proofs.Trees.{none_inside}
-use Rattle.form_presence.specs.Kinds.{is_of}
-use Rattle.form_presence.proofs.Terms.{call_is, form_is, none_in_leaf}
-use Rattle.form_presence.proofs.Walks.{IsSeen, each_kind, none_seen, next_seen, leaf_passed, all_noted, all_counted, form_noted}
-use Rattle.form_presence.proofs.present.+look.Goals.{look-in-Call, look-in-Form, look-in_default}
+use Rattle.form_presence.specs.Kinds.{is_seen}
+use Rattle.form_presence.proofs.Terms.{call_is, form_is, none_of}
+use Rattle.form_presence.proofs.Walks.{IsSeen, in_call, each_kind, none_seen, next_seen, leaf_passed, fill_passed, all_noted, all_counted, form_noted, no_terms, no_nodes}
+use Rattle.form_presence.proofs.present.+look.Goals.{look-in-Call, look-in-Form, look-in-Fill, look-in_default}
 use Rattle.form_presence.proofs.present.+look.Goals as goal
 
 pub look-loop-node-init : goal.look-loop-node-init
@@ -35,13 +37,17 @@ look-loop-node-preserved t c =
     elim c.match-node.branch [
       | look-in-Call w ↦ subst (IsSeen old terms (i + 1)) (sym w.seen-is)
           (next_seen old now w.look.new.seen terms i node (a_call w.in-Call.path (plans_of w.deref.result.now)) c.loop-node-test.true c.node-item.is
-          (call_is node.term w.in-Call.path w.in-Call.args w.deref.result.now w.in-Call.is w.deref.ensures.value) c.loop-node.invariant w.look.ensures.kinds w.look.ensures.nodes)
+          (call_is node.term w.in-Call.path w.in-Call.args w.deref.result.now w.in-Call.is w.deref.ensures.value) c.loop-node.invariant
+          (λ kind. w.look.ensures.kinds kind ∙ ap (λ b. b || is_seen kind now) (sym (in_call kind w.in-Call.path (plans_of w.deref.result.now)))) w.look.ensures.nodes)
       | look-in-Form w ↦ subst (IsSeen old terms (i + 1)) (sym w.seen-is)
           (next_seen old now w.look_in.new.seen terms i node (a_form w.in-Form.op (plans_of w.deref-in-Form.result.now) (plans_of w.deref-in-Form-2.result.now)) c.loop-node-test.true c.node-item.is
           (form_is node.term w.in-Form.op w.in-Form.args w.in-Form.body w.deref-in-Form.result.now w.deref-in-Form-2.result.now w.in-Form.is w.deref-in-Form.ensures.value w.deref-in-Form-2.ensures.value)
           c.loop-node.invariant w.look_in.ensures.kinds w.look_in.ensures.nodes)
+      | look-in-Fill w ↦ subst (IsSeen old terms (i + 1)) (sym w.seen-is)
+          (fill_passed old now w.note_names.new.seen terms i node w.in-Fill.bytes w.in-Fill.named c.loop-node-test.true c.node-item.is (ap plan_of w.in-Fill.is ∙ fill_term w.in-Fill.bytes w.in-Fill.named) c.loop-node.invariant
+          (λ kind. w.note_names.ensures.kinds kind w.in-Fill.bytes) w.note_names.ensures.nodes)
       | look-in_default w ↦ subst (IsSeen old terms (i + 1)) (sym w.seen-is)
-          (leaf_passed old now terms i node c.loop-node-test.true c.node-item.is (λ kind. none_in_leaf (is_of kind) node.term w.in_default.not-Call w.in_default.not-Form)
+          (leaf_passed old now terms i node c.loop-node-test.true c.node-item.is (λ kind. none_of kind node.term w.in_default.not-Fill w.in_default.not-Call w.in_default.not-Form)
           (none_inside node.term w.in_default.not-Call w.in_default.not-Form) c.loop-node.invariant)
     ]
 
@@ -53,4 +59,14 @@ look-returns-clause-nodes t c = all_counted c.args.seen.now c.loop-node.seen c.a
 
 pub look_in-returns-clause-kinds : goal.look_in-returns-clause-kinds
 look_in-returns-clause-kinds t c =
-    form_noted c.args.seen.now c.note.new.seen c.look.new.seen c.look-2.new.seen c.args.op (plans_of c.args.args.now) (plans_of c.args.body.now) c.note.ensures.kinds c.look.ensures.kinds c.look-2.ensures.kinds
+    form_noted c.args.seen.now c.note.new.seen c.look_within.new.seen c.look_within-2.new.seen c.args.op (plans_of c.args.args.now) (plans_of c.args.body.now) c.note.ensures.kinds c.look_within.ensures.kinds c.look_within-2.ensures.kinds
+
+pub look_within-returns-then-is_empty-clause-kinds : goal.look_within-returns-then-is_empty-clause-kinds
+look_within-returns-then-is_empty-clause-kinds t c kind =
+    let none : length c.args.terms.now ≡ 0 = grind (arith, c.is_empty.ensures, c.if-is_empty.true) in no_terms kind c.args.terms.now c.args.seen.now none
+
+pub look_within-returns-then-is_empty-clause-nodes : goal.look_within-returns-then-is_empty-clause-nodes
+look_within-returns-then-is_empty-clause-nodes t c =
+    let none : length c.args.terms.now ≡ 0 = grind (arith, c.is_empty.ensures, c.if-is_empty.true) in
+    let zero = no_nodes c.args.terms.now none in
+    omega (arith, zero)

@@ -8,7 +8,10 @@ abbrev pub invariant-look-loop-node : goal.invariant-look-loop-node
 invariant-look-loop-node l = IsSeen l.fn.seen l.terms l.node-index l.seen
 
 abbrev pub decreases-look_in : goal.decreases-look_in
-decreases-look_in l = 2 * (nodes (plans_of l.args.now) + nodes (plans_of l.body.now)) + 1
+decreases-look_in l = 3 * (nodes (plans_of l.args.now) + nodes (plans_of l.body.now)) + 2
+
+abbrev pub decreases-look_within : goal.decreases-look_within
+decreases-look_within l = 3 * nodes (plans_of l.terms.now) + 1
 
 abbrev pub decreases-look : goal.decreases-look
-decreases-look l = 2 * nodes (plans_of l.terms.now)
+decreases-look l = 3 * nodes (plans_of l.terms.now)

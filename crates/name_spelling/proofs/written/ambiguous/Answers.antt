@@ -20,16 +20,16 @@ returns-in_err-number c =
     (use_unknown (is_named_in paths c.args.also.now) has c.args.name.now scope
     (ap (λ o. first_of (candidates has (choose o (declared_path c.args.name.now scope ∷ []) (λ seg. enclosing seg scope)))) (sym c.in_ok-segment.ensures) ∙ sym c.in_err-number.ensures.path))
 
-pub returns-then-is_found_alone : goal.returns-then-is_found_alone
-returns-then-is_found_alone c =
+pub returns-then-is_alone : goal.returns-then-is_alone
+returns-then-is_alone c =
     let paths = c.args.paths.now in
     use_searched (is_named_in paths c.args.also.now) (is_named_in paths c.args.named.now) c.args.name.now c.in_ok-segment.segment (get_or paths c.args.scope []) (get_or paths c.in_ok-number.number []) true
-    (sym c.in_ok-segment.ensures) (sym c.in_ok-number.ensures.path) (sym c.is_found_alone.ensures ∙ c.if-is_found_alone.true)
+    (sym c.in_ok-segment.ensures) (sym c.in_ok-number.ensures.path) (sym c.is_alone.ensures ∙ c.if-is_alone.true)
 
-pub returns-else-is_found_alone : goal.returns-else-is_found_alone
-returns-else-is_found_alone c =
+pub returns-else-is_alone : goal.returns-else-is_alone
+returns-else-is_alone c =
     let paths = c.args.paths.now in (
       c.in_ok-number.ensures.within,
       use_searched (is_named_in paths c.args.also.now) (is_named_in paths c.args.named.now) c.args.name.now c.in_ok-segment.segment (get_or paths c.args.scope []) (get_or paths c.in_ok-number.number []) false
-          (sym c.in_ok-segment.ensures) (sym c.in_ok-number.ensures.path) (sym c.is_found_alone.ensures ∙ c.if-is_found_alone.false),
+          (sym c.in_ok-segment.ensures) (sym c.in_ok-number.ensures.path) (sym c.is_alone.ensures ∙ c.if-is_alone.false),
     )

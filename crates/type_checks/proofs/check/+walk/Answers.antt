@@ -3,7 +3,7 @@ use Rattle.asl_shape.specs.Plans.{plan_of}
 use Rattle.asl_numbers.specs.Numbers.{inside}
 use Rattle.asl_numbers.proofs.Loops.{smaller}
 use Rattle.type_checks.specs.Names.{listed}
-use Rattle.type_checks.specs.Types.{argument_errors, errors_inside}
+use Rattle.type_checks.specs.Types.{errors_inside}
 use Rattle.type_checks.proofs.Terms.{call_is, inside_call, inside_form, none_inside}
 use Rattle.type_checks.proofs.Walks.{none_checked, next_checked, all_counted, all_checked, none_behind, none_there, none_wrong, form_told}
 use Rattle.type_checks.proofs.check.+walk.Goals as goal
@@ -18,9 +18,9 @@ pub errors_of-loop-at-preserved : goal.errors_of-loop-at-preserved
 errors_of-loop-at-preserved t c =
     let names = listed c.args.names.now in
     let node = c.index-nodes-at.result in
-    next_checked names c.args.asker c.args.nodes.now c.args.first c.args.out.now c.loop-at.at c.loop-at.next _ c.loop-at.out c.argument_errors.new.out c.errors_inside.new.out node c.loop-at-test.true c.index-nodes-at.is c.loop-at.invariant
-    (c.in_ok-argument_errors.ensures ∙ ap (λ w. c.loop-at.out ++ argument_errors names w c.loop-at.next node.place (plan_of node.term)) c.wanted_of.ensures)
-    (c.in_ok-next.ensures.told ∙ ap (λ n. c.argument_errors.new.out ++ errors_inside names n (plan_of node.term)) c.in_ok-after.ensures.next)
+    next_checked names c.args.asker c.args.nodes.now c.args.first c.args.out.now c.loop-at.at c.loop-at.next _ c.loop-at.out c.place_errors.new.out c.errors_inside.new.out node c.loop-at-test.true c.index-nodes-at.is c.loop-at.invariant
+    c.in_ok-place_errors.ensures
+    (c.in_ok-next.ensures.told ∙ ap (λ n. c.place_errors.new.out ++ errors_inside names n (plan_of node.term)) c.in_ok-after.ensures.next)
     (c.in_ok-next.ensures.next ∙ ap (λ n. n + inside (plan_of node.term)) c.in_ok-after.ensures.next)
 
 pub errors_of-returns-clause-next : goal.errors_of-returns-clause-next
