@@ -116,7 +116,7 @@ def loaded(folder, table, other, calls):
     commands = ";".join(f"evaluate \\{name}" for name, _, _ in calls)
     run = subprocess.run(["acpiexec", "-b", commands, "other.aml", "t.aml"], cwd=folder, capture_output=True, text=True, check=False)
     text = run.stdout + run.stderr
-    complaints = re.findall(r".*(?:AE_[A-Z_]+|Error:|Exception:).*", text)
+    complaints = re.findall(r".*(?:AE_[A-Z]{2}[A-Z_]*|Error:|Exception:).*", text)
     answers = []
     for part in text.split("Evaluating ")[1:]:
         integer = re.search(r"\[Integer\] = ([0-9A-F]+)", part)
