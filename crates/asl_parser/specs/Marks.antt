@@ -32,6 +32,11 @@ is_word k.Word = true
 is_word k.Path = true
 is_word _ = false
 
+-- an expression by itself: all but symbols
+abbrev pub is_plain : TokenKind → Bool
+is_plain k.Symbol = false
+is_plain _ = true
+
 -- the tokens, the first of which has this number
 abbrev pub marks : ℕ → List Token → List Mark
 marks n [] = []

@@ -14,7 +14,7 @@ use crate::open::FrameKind;
 use crate::plain::{hold_plain, is_plain};
 use crate::sign::Sign;
 use crate::stack::Stack;
-use crate::stage::Stage;
+use crate::stage::{Stage, set_called};
 use asl_lexer::token::Token;
 use std::alloc::AllocError;
 
@@ -126,7 +126,7 @@ pub fn call<'a>(
     let word = stack.copy(&first.text)?;
     let (next, read) = hold_arguments(stack, tokens, from)?;
     if let Arguments::Closed = read {
-        *stage = Stage::Called { spot, word };
+        set_called(stage, spot, word);
         return Ok(next);
     }
     *stage = stage_of(read);

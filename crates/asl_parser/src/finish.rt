@@ -8,8 +8,8 @@ ghost use Rattle.asl_parser.specs.Stages.{state_of, Holds};
 ghost use Rattle.asl_parser.specs.declared.frame.ParserState.TheVariants as states;
 
 use crate::frame::{LOOSEST, Refusal};
-use crate::machine::settle;
 use crate::open::FrameKind;
+use crate::settle::settle;
 use crate::stack::Stack;
 use crate::stage::Stage;
 use crate::subtree::Subtrees;

@@ -1,12 +1,14 @@
 //! The syntax of a source: its tokens to the one tree that spells them.
 #![tactic(auto)]
 
+mod begin;
 mod calls;
 mod finish;
 mod frame;
 mod levels;
 mod machine;
 mod mark;
+mod members;
 mod nodes;
 mod open;
 mod operators;
@@ -15,6 +17,7 @@ mod place;
 mod plain;
 mod raw;
 mod reader;
+mod settle;
 mod sign;
 mod stack;
 mod stage;

@@ -1,369 +1,33 @@
 //! What one token does.
 ghost use Rattle.std.specs.Prelude.{◌≡◌, ◌∷◌, ◌+◌, ◌^◌, ◌<◌, suc, Some, None, true, OnOk};
-ghost use Rattle.asl_parser.specs.Grow.{no_subtrees, item, leaf, posted};
+ghost use Rattle.asl_parser.specs.Grow.{no_subtrees, item};
 ghost use Rattle.asl_parser.specs.Looks.{lexeme_of};
 ghost use Rattle.asl_parser.specs.Marks.{mark, lexeme};
 ghost use Rattle.asl_parser.specs.Machine as spec;
 ghost use Rattle.asl_parser.specs.Opens.{IsOne, tree_of, kind_of, added, lists};
 ghost use Rattle.asl_parser.specs.Stages.{state_of, Holds, StepsTo, BeginsNext, ends};
-ghost use Rattle.asl_parser.specs.Steps.{is_args, is_list, is_index, binds as binds_by, applied_once, args_closed, list_closed};
-ghost use Rattle.asl_parser.specs.Steps.{index_closed, omitted as omitted_by};
+ghost use Rattle.asl_parser.specs.Steps.{is_index, index_closed};
 ghost use Rattle.asl_parser.specs.declared.mark.Lexeme.TheVariants as lexemes;
-ghost use Rattle.asl_parser.specs.declared.raw.Raw.TheVariants as raws;
 ghost use Rattle.asl_parser.specs.declared.sign.Sign.TheVariants as signs;
 ghost use Rattle.asl_parser.specs.declared.frame.Frame.TheVariants as frames;
 ghost use Rattle.asl_parser.specs.declared.frame.ParserState.TheVariants as states;
 ghost use Rattle.asl_parser.specs.declared.stage.Stage.TheVariants as stages;
 
+use crate::begin::{begin, sequence};
 use crate::frame::{LOOSEST, Refusal};
 use crate::mark::{Look, Spot};
-use crate::nodes::{NodeForm, SyntaxNode};
+use crate::members::{argued, argument, element, first_argument, first_element, listed};
 use crate::open::FrameKind;
 use crate::raw::Infix;
+use crate::settle::{post, settle};
 use crate::sign::{Sign, Strength, strength_of};
 use crate::stack::Stack;
-use crate::stage::Stage;
+use crate::stage::{Stage, set_first_argument, set_operand, set_sequence, set_whole};
 use crate::subtree::BoxedSubtrees;
 use crate::text::SyntaxText;
 use asl_lexer::token::Token;
 use std::alloc::AllocError;
 use std::mem::replace;
-
-// Whether the innermost frame is an operator that binds at least as tightly.
-fn binds(stack: &Stack<'_>, pull: u8) -> bool
-    ensures { result ≡ binds_by pull stack.now.1 }
-{
-    match stack.kind() {
-        FrameKind::Pending { level, .. } => *level <= pull,
-        _ => false,
-    }
-}
-
-// Ends the innermost frame, an operator whose last operand is held, which is then over its operands.
-#[inline(never)]
-fn apply(stack: &mut Stack<'_>) -> Result<(), AllocError>
-    requires one { IsOne stack.old.0 }
-    ensures stack { OnOk result ((tree_of stack.new.0, stack.new.1) ≡ applied_once (tree_of stack.old.0) stack.old.1) }
-    ensures one { OnOk result (IsOne stack.new.0) }
-{
-    if let FrameKind::Pending { spot, op, .. } = stack.kind() {
-        let (spot, op) = (*spot, *op);
-        let first = stack.leading(spot.token);
-        stack.end_with()?;
-        stack.apply(first, spot, op)?;
-    }
-    Ok(())
-}
-
-/// Applies the operators that bind at least as tightly to the tree that is held.
-#[inline(always)]
-pub fn settle(stack: &mut Stack<'_>, pull: u8) -> Result<(), AllocError>
-    requires one { IsOne stack.old.0 }
-    ensures stack { OnOk result ((tree_of stack.new.0, stack.new.1) ≡ spec.settle pull (tree_of stack.old.0) stack.old.1) }
-    ensures one { OnOk result (IsOne stack.new.0) }
-{
-    while binds(stack, pull) {
-        apply(stack)?;
-    }
-    Ok(())
-}
-
-// Puts an operator behind the tree that is held.
-fn post(stack: &mut Stack<'_>, spot: Spot, op: Infix) -> Result<(), AllocError>
-    requires one { IsOne stack.old.0 }
-    ensures tree { OnOk result (tree_of stack.new.0 ≡ posted spot op (tree_of stack.old.0)) }
-    ensures one { OnOk result (IsOne stack.new.0) }
-    ensures frames { OnOk result (stack.new.1 ≡ stack.old.1) }
-{
-    let first = stack.leading_held(spot.token);
-    stack.apply(first, spot, op)?;
-    Ok(())
-}
-
-// A word or path, of which the machine keeps the text.
-fn word<'a>(
-    stack: &Stack<'a>,
-    stage: &mut Stage<'a>,
-    spot: Spot,
-    token: &Token,
-) -> Result<(), Refusal>
-    requires { stack.now.0 ≡ no_subtrees }
-    ensures { StepsTo result stage.new stack.now (Some (states.Word spot token.now.text, stack.now.1)) }
-{
-    let word = stack.copy(&token.text)?;
-    *stage = Stage::Word { spot, word };
-    Ok(())
-}
-
-fn number<'a>(
-    stack: &mut Stack<'a>,
-    stage: &mut Stage<'a>,
-    spot: Spot,
-    token: &Token,
-) -> Result<(), Refusal>
-    requires { stack.old.0 ≡ no_subtrees }
-    ensures { StepsTo result stage.new stack.new (spec.begin_by spot (lexemes.Number token.now.number) stack.old.1) }
-{
-    if stack.room() < 1 {
-        return Err(Refusal::Refused);
-    }
-    let place = spot.place;
-    let value = token.number;
-    stack.hold(
-        spot.token,
-        SyntaxNode {
-            form: NodeForm::Number { place, value },
-        },
-    )?;
-    *stage = Stage::Whole;
-    Ok(())
-}
-
-fn text<'a>(
-    stack: &mut Stack<'a>,
-    stage: &mut Stage<'a>,
-    spot: Spot,
-    token: &Token,
-) -> Result<(), Refusal>
-    requires { stack.old.0 ≡ no_subtrees }
-    ensures { StepsTo result stage.new stack.new (spec.begin_by spot (lexemes.Text token.now.text) stack.old.1) }
-{
-    if stack.room() < 1 {
-        return Err(Refusal::Refused);
-    }
-    let place = spot.place;
-    let text = stack.copy(&token.text)?;
-    stack.hold(
-        spot.token,
-        SyntaxNode {
-            form: NodeForm::Text { place, text },
-        },
-    )?;
-    *stage = Stage::Whole;
-    Ok(())
-}
-
-#[tactic(auto, unfolding(crate::specs::Machine::begin))]
-fn begin<'a>(
-    stack: &mut Stack<'a>,
-    stage: &mut Stage<'a>,
-    spot: Spot,
-    look: Look,
-    token: &Token,
-) -> Result<(), Refusal>
-    requires { stack.old.0 ≡ no_subtrees }
-    ensures { StepsTo result stage.new stack.new (spec.begin spot (lexeme_of look token.now) stack.old.1) }
-{
-    match look {
-        Look::Word => word(stack, stage, spot, token),
-        Look::Path => word(stack, stage, spot, token),
-        Look::Number => number(stack, stage, spot, token),
-        Look::Text => text(stack, stage, spot, token),
-        Look::Sign(sign) => begin_sign(stack, stage, spot, sign),
-        Look::Other => Err(Refusal::Refused),
-    }
-}
-
-#[inline(never)]
-fn begin_sign<'a>(
-    stack: &mut Stack<'a>,
-    stage: &mut Stage<'a>,
-    spot: Spot,
-    sign: Sign,
-) -> Result<(), Refusal>
-    requires { stack.old.0 ≡ no_subtrees }
-    ensures { StepsTo result stage.new stack.new (spec.begin_sign spot sign stack.old.1) }
-{
-    match sign {
-        Sign::LeftParen => {
-            if stack.room() < 1 {
-                return Err(Refusal::Refused);
-            }
-            stack.open_bracket()?;
-            *stage = Stage::Operand;
-            Ok(())
-        }
-        Sign::Prefix(op) => {
-            if stack.room() < 2 {
-                return Err(Refusal::Refused);
-            }
-            stack.open(FrameKind::Pending {
-                level: 2,
-                room: 2,
-                spot,
-                op,
-            })?;
-            *stage = Stage::Operand;
-            Ok(())
-        }
-        _ => Err(Refusal::Refused),
-    }
-}
-
-// A comma or semicolon of a body.
-#[inline(never)]
-fn separated<'a>(
-    stack: &mut Stack<'a>,
-    stage: &mut Stage<'a>,
-    spot: Spot,
-    separator: SyntaxNode<'a>,
-) -> Result<(), Refusal>
-    requires { stack.old.0 ≡ no_subtrees }
-    ensures { StepsTo result stage.new stack.new (spec.separated (leaf spot.token separator.entry) stack.old.1) }
-{
-    match stack.kind() {
-        FrameKind::Body { .. } => {
-            stack.hold(spot.token, separator)?;
-            stack.add()?;
-            *stage = Stage::Sequence;
-            Ok(())
-        }
-        _ => Err(Refusal::Refused),
-    }
-}
-
-// The end of a body.
-#[inline(never)]
-fn close_body<'a>(stack: &mut Stack<'a>, stage: &mut Stage<'a>) -> Result<(), Refusal>
-    requires { stack.old.0 ≡ no_subtrees }
-    ensures { StepsTo result stage.new stack.new (spec.close_body stack.old.1) }
-{
-    match stack.kind() {
-        FrameKind::Body { .. } => {}
-        _ => return Err(Refusal::Refused),
-    }
-    let FrameKind::Body { spot, word, args } = stack.end() else {
-        return Err(Refusal::Refused);
-    };
-    stack.block(spot, word, args)?;
-    *stage = Stage::Whole;
-    Ok(())
-}
-
-#[tactic(auto, unfolding(crate::specs::Machine::sequence, crate::specs::Machine::begin))]
-fn sequence<'a>(
-    stack: &mut Stack<'a>,
-    stage: &mut Stage<'a>,
-    spot: Spot,
-    look: Look,
-    token: &Token,
-) -> Result<(), Refusal>
-    requires { stack.old.0 ≡ no_subtrees }
-    ensures { StepsTo result stage.new stack.new (spec.sequence spot (lexeme_of look token.now) stack.old.1) }
-{
-    match look {
-        Look::Sign(Sign::Comma) => separated(
-            stack,
-            stage,
-            spot,
-            SyntaxNode {
-                form: NodeForm::Comma,
-            },
-        ),
-        Look::Sign(Sign::Semicolon) => separated(
-            stack,
-            stage,
-            spot,
-            SyntaxNode {
-                form: NodeForm::Semicolon,
-            },
-        ),
-        Look::Sign(Sign::RightBrace) => close_body(stack, stage),
-        _ => begin(stack, stage, spot, look, token),
-    }
-}
-
-// The end of arguments, all of which are held or were read.
-#[inline(never)]
-fn close_args<'a>(stack: &mut Stack<'a>, stage: &mut Stage<'a>) -> Result<(), Refusal>
-    requires one { IsOne stack.old.0 }
-    requires args { is_args (kind_of stack.old.1) ≡ true }
-    ensures { StepsTo result stage.new stack.new (args_closed (tree_of stack.old.0) stack.old.1) }
-{
-    let FrameKind::Args { spot, word } = stack.end_with()? else {
-        return Err(Refusal::Refused);
-    };
-    *stage = Stage::Called { spot, word };
-    Ok(())
-}
-
-// After a member of arguments, which is held.
-#[tactic(auto, unfolding(crate::specs::Machine::listed))]
-fn argued<'a>(
-    stack: &mut Stack<'a>,
-    stage: &mut Stage<'a>,
-    look: Look,
-    token: &Token,
-) -> Result<(), Refusal>
-    requires one { IsOne stack.old.0 }
-    requires args { is_args (kind_of stack.old.1) ≡ true }
-    ensures { StepsTo result stage.new stack.new (spec.listed (tree_of stack.old.0) (lexeme_of look token.now) stack.old.1) }
-{
-    match look {
-        Look::Sign(Sign::Comma) => {
-            stack.add()?;
-            *stage = Stage::Argument;
-            Ok(())
-        }
-        Look::Sign(Sign::RightParen) => close_args(stack, stage),
-        _ => Err(Refusal::Refused),
-    }
-}
-
-// The end of a list, all of which is held.
-#[inline(never)]
-fn close_list<'a>(stack: &mut Stack<'a>, stage: &mut Stage<'a>) -> Result<(), Refusal>
-    requires one { IsOne stack.old.0 }
-    requires list { is_list (kind_of stack.old.1) ≡ true }
-    ensures { StepsTo result stage.new stack.new (list_closed (tree_of stack.old.0) stack.old.1) }
-{
-    let FrameKind::List { spot } = stack.end_with()? else {
-        return Err(Refusal::Refused);
-    };
-    stack.list(spot)?;
-    *stage = Stage::Listed;
-    Ok(())
-}
-
-// After a member of a list, which is held.
-#[tactic(auto, unfolding(crate::specs::Machine::listed))]
-fn elemented<'a>(
-    stack: &mut Stack<'a>,
-    stage: &mut Stage<'a>,
-    look: Look,
-    token: &Token,
-) -> Result<(), Refusal>
-    requires one { IsOne stack.old.0 }
-    requires list { is_list (kind_of stack.old.1) ≡ true }
-    ensures { StepsTo result stage.new stack.new (spec.listed (tree_of stack.old.0) (lexeme_of look token.now) stack.old.1) }
-{
-    match look {
-        Look::Sign(Sign::Comma) => {
-            stack.add()?;
-            *stage = Stage::Element;
-            Ok(())
-        }
-        Look::Sign(Sign::RightBrace) => close_list(stack, stage),
-        _ => Err(Refusal::Refused),
-    }
-}
-
-#[tactic(auto, unfolding(crate::specs::Machine::listed))]
-fn listed<'a>(
-    stack: &mut Stack<'a>,
-    stage: &mut Stage<'a>,
-    look: Look,
-    token: &Token,
-) -> Result<(), Refusal>
-    requires one { IsOne stack.old.0 }
-    ensures { StepsTo result stage.new stack.new (spec.listed (tree_of stack.old.0) (lexeme_of look token.now) stack.old.1) }
-{
-    match stack.kind() {
-        FrameKind::Args { .. } => argued(stack, stage, look, token),
-        FrameKind::List { .. } => elemented(stack, stage, look, token),
-        _ => Err(Refusal::Refused),
-    }
-}
 
 // After an expression of a body, or an item of the source, which is held.
 fn ended<'a>(
@@ -395,7 +59,7 @@ fn close_index<'a>(stack: &mut Stack<'a>, stage: &mut Stage<'a>) -> Result<(), R
     let first = stack.leading(spot.token);
     stack.end_with()?;
     stack.apply(first, spot, Infix::Index)?;
-    *stage = Stage::Whole;
+    set_whole(stage);
     Ok(())
 }
 
@@ -417,7 +81,7 @@ fn enclosed<'a>(
         FrameKind::Bracket => match look {
             Look::Sign(Sign::RightParen) => {
                 stack.close_bracket();
-                *stage = Stage::Whole;
+                set_whole(stage);
                 Ok(())
             }
             _ => Err(Refusal::Refused),
@@ -441,7 +105,7 @@ fn open_index<'a>(stack: &mut Stack<'a>, stage: &mut Stage<'a>, spot: Spot) -> R
         return Err(Refusal::Refused);
     }
     stack.open(FrameKind::Index { spot })?;
-    *stage = Stage::Operand;
+    set_operand(stage);
     Ok(())
 }
 
@@ -461,7 +125,7 @@ fn postfix<'a>(
         return Err(Refusal::Refused);
     }
     post(stack, spot, op)?;
-    *stage = Stage::Whole;
+    set_whole(stage);
     Ok(())
 }
 
@@ -514,7 +178,7 @@ fn operator<'a>(
         spot,
         op,
     })?;
-    *stage = Stage::Operand;
+    set_operand(stage);
     Ok(())
 }
 
@@ -529,7 +193,7 @@ fn open_arguments<'a>(
     ensures { StepsTo result stage.new stack.new (Some (states.FirstArgument, frames.Args spot word.entry no_subtrees ∷ stack.old.1)) }
 {
     stack.open(FrameKind::Args { spot, word })?;
-    *stage = Stage::FirstArgument;
+    set_first_argument(stage);
     Ok(())
 }
 
@@ -547,7 +211,7 @@ fn open_body<'a>(
         (Some (states.Sequence, frames.Body spot word.entry args.entry no_subtrees ∷ stack.old.1)) }
 {
     stack.open(FrameKind::Body { spot, word, args })?;
-    *stage = Stage::Sequence;
+    set_sequence(stage);
     Ok(())
 }
 
@@ -597,134 +261,6 @@ fn after_called<'a>(
             after(stack, stage, spot, look, token)
         }
     }
-}
-
-// An argument that is left out.
-fn omitted<'a>(
-    stack: &mut Stack<'a>,
-    stage: &mut Stage<'a>,
-    spot: Spot,
-    look: Look,
-    token: &Token,
-) -> Result<(), Refusal>
-    requires { stack.old.0 ≡ no_subtrees }
-    ensures { StepsTo result stage.new stack.new (omitted_by (leaf spot.token raws.Empty) (lexeme_of look token.now) stack.old.1) }
-{
-    match stack.kind() {
-        FrameKind::Args { .. } => {
-            stack.hold(
-                spot.token,
-                SyntaxNode {
-                    form: NodeForm::Empty,
-                },
-            )?;
-            argued(stack, stage, look, token)
-        }
-        _ => Err(Refusal::Refused),
-    }
-}
-
-#[tactic(auto, unfolding(crate::specs::Machine::argument, crate::specs::Machine::begin))]
-fn argument<'a>(
-    stack: &mut Stack<'a>,
-    stage: &mut Stage<'a>,
-    spot: Spot,
-    look: Look,
-    token: &Token,
-) -> Result<(), Refusal>
-    requires { stack.old.0 ≡ no_subtrees }
-    ensures { StepsTo result stage.new stack.new (spec.argument spot (lexeme_of look token.now) stack.old.1) }
-{
-    match look {
-        Look::Sign(Sign::RightParen) => omitted(stack, stage, spot, look, token),
-        Look::Sign(Sign::Comma) => omitted(stack, stage, spot, look, token),
-        Look::Sign(Sign::LeftBrace) => {
-            stack.open(FrameKind::List { spot })?;
-            *stage = Stage::FirstElement;
-            Ok(())
-        }
-        _ => begin(stack, stage, spot, look, token),
-    }
-}
-
-#[inline(never)]
-#[tactic(auto, unfolding(crate::specs::Machine::first_argument, crate::specs::Machine::argument))]
-fn first_argument<'a>(
-    stack: &mut Stack<'a>,
-    stage: &mut Stage<'a>,
-    spot: Spot,
-    look: Look,
-    token: &Token,
-) -> Result<(), Refusal>
-    requires { stack.old.0 ≡ no_subtrees }
-    ensures { StepsTo result stage.new stack.new (spec.first_argument spot (lexeme_of look token.now) stack.old.1) }
-{
-    let Look::Sign(Sign::RightParen) = look else {
-        return argument(stack, stage, spot, look, token);
-    };
-    match stack.kind() {
-        FrameKind::Args { .. } => {}
-        _ => return Err(Refusal::Refused),
-    }
-    let FrameKind::Args { spot, word } = stack.end() else {
-        return Err(Refusal::Refused);
-    };
-    *stage = Stage::Called { spot, word };
-    Ok(())
-}
-
-#[tactic(auto, unfolding(crate::specs::Machine::element))]
-fn element<'a>(
-    stack: &mut Stack<'a>,
-    stage: &mut Stage<'a>,
-    spot: Spot,
-    look: Look,
-    token: &Token,
-) -> Result<(), Refusal>
-    requires { stack.old.0 ≡ no_subtrees }
-    ensures { StepsTo result stage.new stack.new (spec.element spot (lexeme_of look token.now) stack.old.1) }
-{
-    match look {
-        Look::Word => {
-            let word = stack.copy(&token.text)?;
-            stack.name(spot, word)?;
-            *stage = Stage::Listed;
-            Ok(())
-        }
-        Look::Sign(Sign::LeftBrace) => {
-            stack.open(FrameKind::List { spot })?;
-            *stage = Stage::FirstElement;
-            Ok(())
-        }
-        _ => Err(Refusal::Refused),
-    }
-}
-
-#[inline(never)]
-#[tactic(auto, unfolding(crate::specs::Machine::first_element, crate::specs::Machine::element))]
-fn first_element<'a>(
-    stack: &mut Stack<'a>,
-    stage: &mut Stage<'a>,
-    spot: Spot,
-    look: Look,
-    token: &Token,
-) -> Result<(), Refusal>
-    requires { stack.old.0 ≡ no_subtrees }
-    ensures { StepsTo result stage.new stack.new (spec.first_element spot (lexeme_of look token.now) stack.old.1) }
-{
-    let Look::Sign(Sign::RightBrace) = look else {
-        return element(stack, stage, spot, look, token);
-    };
-    match stack.kind() {
-        FrameKind::List { .. } => {}
-        _ => return Err(Refusal::Refused),
-    }
-    let FrameKind::List { spot } = stack.end() else {
-        return Err(Refusal::Refused);
-    };
-    stack.list(spot)?;
-    *stage = Stage::Listed;
-    Ok(())
 }
 
 /// What a token does to what was read last and to what is open.
@@ -815,7 +351,7 @@ pub fn hold_word<'a>(
     };
     let word = stack.copy(&token.text)?;
     stack.name(spot, word)?;
-    *stage = Stage::Whole;
+    set_whole(stage);
     Ok(())
 }
 

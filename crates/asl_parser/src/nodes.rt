@@ -1,6 +1,7 @@
 //! The tree of a source as the code keeps it: its lists and its long texts lie in an arena, and are let go with that.
 ghost use Rattle.std.specs.Prelude.{◌≡◌, ◌≤◌, ◌+◌, [], take, drop, length, IfOk, OnOk, OnErr};
 ghost use Rattle.std.specs.Vec.{vec_capacity};
+ghost use Rattle.asl_parser.specs.declared.raw.Raw.TheVariants as raw;
 
 use crate::raw::Infix;
 use crate::text::SyntaxText;
@@ -115,10 +116,43 @@ impl<'a> Model for SyntaxNodes<'a> {
     ghost size_decreases = { λ nodes h. nodes_fall nodes.items.now };
 }
 
-// What stands in the place of a node that was moved.
-fn nothing<'a>() -> SyntaxNode<'a> {
+/// The node of a number.
+#[inline(always)]
+pub fn number_node<'a>(place: Place, value: u64) -> SyntaxNode<'a>
+    ensures { result ≡ raw.Number place value }
+{
+    SyntaxNode {
+        form: NodeForm::Number { place, value },
+    }
+}
+
+/// The node of a string.
+#[inline(always)]
+pub fn text_node<'a>(place: Place, text: SyntaxText<'a>) -> SyntaxNode<'a>
+    ensures { result ≡ raw.Text place text.entry }
+{
+    SyntaxNode {
+        form: NodeForm::Text { place, text },
+    }
+}
+
+/// The node of a comma in a body.
+#[inline(always)]
+pub fn comma_node<'a>() -> SyntaxNode<'a>
+    ensures { result ≡ raw.Comma }
+{
     SyntaxNode {
         form: NodeForm::Comma,
+    }
+}
+
+/// The node of a semicolon in a body.
+#[inline(always)]
+pub fn semicolon_node<'a>() -> SyntaxNode<'a>
+    ensures { result ≡ raw.Semicolon }
+{
+    SyntaxNode {
+        form: NodeForm::Semicolon,
     }
 }
 
@@ -135,7 +169,7 @@ fn move_tail<'a>(
     ensures rest { take start nodes.new.items ≡ take start nodes.old.items }
 {
     for i in start..nodes.len() {
-        list.push_reserved(replace(&mut nodes[i], nothing()));
+        list.push_reserved(replace(&mut nodes[i], comma_node()));
     }
 }
 

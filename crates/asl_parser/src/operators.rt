@@ -11,10 +11,10 @@ ghost use Rattle.asl_parser.specs.declared.mark.Lexeme.TheVariants as lexemes;
 ghost use Rattle.asl_parser.specs.declared.sign.Sign.TheVariants as signs;
 
 use crate::frame::Refusal;
-use crate::machine::settle;
 use crate::mark::{Look, Spot, look_of};
 use crate::plain::{hold_plain, is_plain};
 use crate::raw::Infix;
+use crate::settle::settle;
 use crate::sign::{Sign, strength_of};
 use crate::stack::Stack;
 use asl_lexer::token::Token;

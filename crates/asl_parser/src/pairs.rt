@@ -12,11 +12,11 @@ ghost use Rattle.asl_parser.specs.declared.mark.Lexeme.TheVariants as lexemes;
 ghost use Rattle.asl_parser.specs.declared.sign.Sign.TheVariants as signs;
 
 use crate::mark::{Look, Spot};
-use crate::nodes::{NodeForm, SyntaxNode};
+use crate::nodes::{NodeForm, SyntaxNode, number_node, text_node};
 use crate::open::FrameKind;
 use crate::sign::Sign;
 use crate::stack::Stack;
-use crate::stage::Stage;
+use crate::stage::{Stage, set_argument, set_called};
 use asl_lexer::token::{Token, TokenKind};
 use std::alloc::AllocError;
 
@@ -52,22 +52,12 @@ fn add_plain(stack: &mut Stack<'_>, number: u32, token: &Token) -> Result<bool, 
         }
         TokenKind::Number => {
             let value = token.number;
-            stack.append(
-                number,
-                SyntaxNode {
-                    form: NodeForm::Number { place, value },
-                },
-            )?;
+            stack.append(number, number_node(place, value))?;
             Ok(true)
         }
         TokenKind::Text => {
             let text = stack.copy(&token.text)?;
-            stack.append(
-                number,
-                SyntaxNode {
-                    form: NodeForm::Text { place, text },
-                },
-            )?;
+            stack.append(number, text_node(place, text))?;
             Ok(true)
         }
         TokenKind::Symbol => Ok(false),
@@ -93,7 +83,7 @@ fn argument_goes<'a>(
     ensures holds { OnOk result (Holds stage.new stack.new.0) }
 {
     if add_plain(stack, number, first)? {
-        *stage = Stage::Argument;
+        set_argument(stage);
         return Ok(true);
     }
     Ok(false)
@@ -121,7 +111,7 @@ fn argument_ends<'a>(
         let FrameKind::Args { spot, word } = stack.end() else {
             return Err(AllocError);
         };
-        *stage = Stage::Called { spot, word };
+        set_called(stage, spot, word);
         return Ok(true);
     }
     Ok(false)

@@ -1,11 +1,12 @@
 //! Tokens that are expressions by themselves.
 ghost use Rattle.std.specs.Prelude.{◌≡◌, None, IfOk, OnOk, is_some};
 ghost use Rattle.asl_parser.specs.Grow.{joined, item};
+ghost use Rattle.asl_parser.specs.Marks as spec;
 ghost use Rattle.asl_parser.specs.Marks.{mark};
 ghost use Rattle.asl_parser.specs.Pairs.{plain, HoldsNode};
 
 use crate::mark::Spot;
-use crate::nodes::{NodeForm, SyntaxNode};
+use crate::nodes::{number_node, text_node};
 use crate::stack::Stack;
 use asl_lexer::token::{Token, TokenKind};
 use std::alloc::AllocError;
@@ -38,30 +39,21 @@ pub fn hold_plain(stack: &mut Stack<'_>, number: u32, token: &Token) -> Result<b
         }
         TokenKind::Number => {
             let value = token.number;
-            stack.hold_behind(
-                number,
-                SyntaxNode {
-                    form: NodeForm::Number { place, value },
-                },
-            )?;
+            stack.hold_behind(number, number_node(place, value))?;
             Ok(true)
         }
         TokenKind::Text => {
             let text = stack.copy(&token.text)?;
-            stack.hold_behind(
-                number,
-                SyntaxNode {
-                    form: NodeForm::Text { place, text },
-                },
-            )?;
+            stack.hold_behind(number, text_node(place, text))?;
             Ok(true)
         }
         TokenKind::Symbol => Ok(false),
     }
 }
 
-/// Whether a token of this kind is an expression by itself. It only chooses the way: where it says no, the token is read by the way of
-/// all expressions, with the same tree, so that no contract leans on its answer.
-pub fn is_plain(kind: TokenKind) -> bool {
+/// Whether a token of this kind is an expression by itself. Where it is none, the token is read by the way of all expressions.
+pub fn is_plain(kind: TokenKind) -> bool
+    ensures { result ≡ spec.is_plain kind }
+{
     !matches!(kind, TokenKind::Symbol)
 }

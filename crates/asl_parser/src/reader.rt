@@ -28,7 +28,7 @@ use crate::pairs::skip_pair;
 use crate::raw::{Infix, RawUnit};
 use crate::sign::Sign;
 use crate::stack::Stack;
-use crate::stage::{Stage, begins, ends};
+use crate::stage::{Stage, begins, ends, set_whole};
 use crate::subtree::{Subtrees, TALLEST};
 use asl_lexer::token::{Token, TokenKind, Tokens};
 use bumpalo::Bump;
@@ -121,12 +121,22 @@ fn is_operator(look: Look) -> bool
     matches!(look, Look::Sign(Sign::Binary(_)))
 }
 
-// The operator between two operands that looks so.
-fn operator_of(look: Look) -> Option<Infix>
-    ensures { IfSome result (λ op. look ≡ looks.Sign (signs.Binary op)) }
+// The operator between two operands that looks so, where so many tokens are left that it can be read with its last operand, and
+// more may be open than is.
+#[inline(always)]
+fn operator_ahead(look: Look, left: usize, depth: usize) -> Option<Infix>
+    ensures operator { IfSome result (λ op. look ≡ looks.Sign (signs.Binary op)) }
+    ensures left { IfSome result (λ op. 2 < left) }
+    ensures low { IfSome result (λ op. depth < limit) }
 {
     match look {
-        Look::Sign(Sign::Binary(op)) => Some(op),
+        Look::Sign(Sign::Binary(op)) => {
+            if left <= 2 || DEEPEST <= depth {
+                None
+            } else {
+                Some(op)
+            }
+        }
         _ => None,
     }
 }
@@ -159,12 +169,9 @@ fn operated<'a>(
     ensures holds { OnOk result (Holds stage.new stack.new.0) }
     ensures fails { IfErr result (λ fault. FailsAt fault (marks 0 tokens.now) at (state_of stage.old stack.old.0, stack.old.1)) }
 {
-    let Some(op) = operator_of(look) else {
+    let Some(op) = operator_ahead(look, tokens.len() - at, stack.depth()) else {
         return single(stack, stage, tokens, at, token, look);
     };
-    if tokens.len() - at <= 2 || DEEPEST <= stack.depth() {
-        return single(stack, stage, tokens, at, token, look);
-    }
     match operate(
         stack,
         at as u32,
@@ -178,6 +185,17 @@ fn operated<'a>(
         Err(Refusal::Refused) => Err(Syntax::Stop { token: at as u32 }),
         Err(Refusal::Memory) => Err(Syntax::Memory),
     }
+}
+
+// Whether a token that looks so opens a bracket, where so many tokens are left that it can be read whole, and so much more may be
+// open than is.
+#[inline(always)]
+fn opens_bracket(look: Look, left: usize, depth: usize) -> bool
+    ensures paren { result ≡ true → look ≡ looks.Sign signs.LeftParen }
+    ensures left { result ≡ true → 4 < left }
+    ensures low { result ≡ true → depth + 1 < limit }
+{
+    is_left_paren(look) && 4 < left && depth < DEEPEST - 1
 }
 
 // Reads the token at a place where an expression may begin, or where it begins an operator between two tokens in parentheses
@@ -203,12 +221,12 @@ fn begun<'a>(
     ensures holds { OnOk result (Holds stage.new stack.new.0) }
     ensures fails { IfErr result (λ fault. FailsAt fault (marks 0 tokens.now) at (state_of stage.old stack.old.0, stack.old.1)) }
 {
-    if !is_left_paren(look) || tokens.len() - at <= 4 || DEEPEST <= stack.depth() + 1 {
+    if !opens_bracket(look, tokens.len() - at, stack.depth()) {
         return single(stack, stage, tokens, at, token, look);
     }
     match bracket(stack, tokens, at, token) {
         Ok(true) => {
-            *stage = Stage::Whole;
+            set_whole(stage);
             Ok(at + 5)
         }
         Ok(false) => single(stack, stage, tokens, at, token, look),

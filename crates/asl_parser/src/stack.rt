@@ -1,5 +1,5 @@
 //! What stands open, and the trees that were read last.
-ghost use Rattle.std.specs.Prelude.{◌≡◌, ◌&&◌, ◌+◌, ◌∷◌, ◌<◌, ◌++◌, Some, None, true, IfOk, OnOk, OnErr, length, is_some, reverse};
+ghost use Rattle.std.specs.Prelude.{◌≡◌, ◌&&◌, ◌+◌, ◌∷◌, [], ◌<◌, ◌++◌, Some, None, true, IfOk, OnOk, OnErr, length, is_some, reverse};
 ghost use Rattle.std.specs.Option.{option_to_list};
 ghost use Rattle.std.specs.Vec.{vec_len, vec_capacity};
 ghost use Rattle.asl_parser.specs.declared.frame.Frame.TheVariants as frames;
@@ -102,6 +102,16 @@ fn named<'a>(spot: Spot, word: SyntaxText<'a>) -> SyntaxNode<'a>
     }
 }
 
+// Adds a node. Here alone its type stands in that of the answer of a `push` (docs/DECISIONS.md).
+#[inline(always)]
+fn push<'a>(nodes: &mut Vec<SyntaxNode<'a>>, raw: SyntaxNode<'a>) -> Result<(), AllocError>
+    ensures items { OnOk result (nodes.new.items ≡ nodes.old.items ++ raw.entry ∷ []) }
+    ensures err { OnErr result (nodes.new.items ≡ nodes.old.items) }
+{
+    nodes.push(raw)?;
+    Ok(())
+}
+
 // Adds a node, unless it would be too tall. Answers whether it is kept.
 #[inline(always)]
 fn keep<'a>(
@@ -118,7 +128,7 @@ fn keep<'a>(
     }
     match raw {
         Some(raw) => {
-            nodes.push(raw)?;
+            push(nodes, raw)?;
             Ok(true)
         }
         None => Ok(false),
@@ -135,13 +145,20 @@ fn deeper(depth: usize, weight: usize) -> Result<usize, AllocError>
     }
 }
 
-// Puts a frame on the others.
-fn put_on<'a>(outer: &mut Vec<OpenFrame<'a>>, innermost: &mut OpenFrame<'a>, next: OpenFrame<'a>)
+// Puts a frame of this kind on the others.
+#[inline(always)]
+fn put_on<'a>(
+    outer: &mut Vec<OpenFrame<'a>>,
+    innermost: &mut OpenFrame<'a>,
+    kind: FrameKind<'a>,
+    group: FrameGroup,
+)
     requires { vec_len outer.old < vec_capacity outer.old }
-    ensures innermost { innermost.new ≡ next.entry }
+    ensures kind { innermost.new.kind ≡ kind.entry }
+    ensures group { innermost.new.group ≡ group }
     ensures outer { reverse outer.new.items ≡ innermost.old ∷ reverse outer.old.items }
 {
-    outer.push_reserved(replace(innermost, next));
+    outer.push_reserved(replace(innermost, OpenFrame { kind, group }));
 }
 
 // Takes the innermost frame off.
@@ -238,7 +255,7 @@ impl<'a> Stack<'a> {
         ensures one { OnOk result (IsOne self.new.0) }
         ensures frames { OnOk result (self.new.1 ≡ self.old.1) }
     {
-        self.nodes.push(raw)?;
+        push(&mut self.nodes, raw)?;
         self.hand.levels = Levels::of_one(self.alloc, first);
         Ok(())
     }
@@ -248,7 +265,7 @@ impl<'a> Stack<'a> {
     pub fn hold_behind(&mut self, first: u32, raw: SyntaxNode<'a>) -> Result<(), AllocError>
         ensures { OnOk result (self.new ≡ (joined self.old.0 (grow.leaf first raw.entry), self.old.1)) }
     {
-        self.nodes.push(raw)?;
+        push(&mut self.nodes, raw)?;
         self.hand.levels.join_one(self.alloc, first);
         Ok(())
     }
@@ -273,11 +290,7 @@ impl<'a> Stack<'a> {
         self.outer.reserve(1)?;
         let hand = FrameGroup::new(self.alloc, count(&self.nodes));
         let group = replace(&mut self.hand, hand);
-        put_on(
-            &mut self.outer,
-            &mut self.innermost,
-            OpenFrame { kind, group },
-        );
+        put_on(&mut self.outer, &mut self.innermost, kind, group);
         self.depth = depth;
         Ok(())
     }
@@ -289,11 +302,11 @@ impl<'a> Stack<'a> {
         let depth = deeper(self.depth, 1)?;
         self.outer.reserve(1)?;
         let group = FrameGroup::new(self.alloc, self.hand.start);
-        let kind = FrameKind::Bracket;
         put_on(
             &mut self.outer,
             &mut self.innermost,
-            OpenFrame { kind, group },
+            FrameKind::Bracket,
+            group,
         );
         self.depth = depth;
         Ok(())
@@ -332,7 +345,7 @@ impl<'a> Stack<'a> {
         requires lists { lists (kind_of self.old.1) ≡ true }
         ensures { OnOk result (self.new ≡ (no_subtrees, added (grow.leaf first raw.entry) self.old.1)) }
     {
-        self.nodes.push(raw)?;
+        push(&mut self.nodes, raw)?;
         self.innermost.group.levels.join_one(self.alloc, first);
         self.hand.start = count(&self.nodes);
         Ok(())

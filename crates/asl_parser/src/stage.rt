@@ -1,6 +1,7 @@
 //! What was read last, but for the trees that are held.
 ghost use Rattle.std.specs.Prelude.{◌≡◌};
 ghost use Rattle.asl_parser.specs.Stages as spec;
+ghost use Rattle.asl_parser.specs.declared.stage.Stage.TheVariants as stages;
 
 use crate::mark::Spot;
 use crate::text::SyntaxText;
@@ -48,4 +49,84 @@ pub fn ends(stage: &Stage<'_>) -> bool
         Stage::Called { .. } | Stage::Whole => true,
         _ => false,
     }
+}
+
+/// From here on an expression has to begin.
+#[inline(always)]
+pub fn set_operand(stage: &mut Stage<'_>)
+    ensures { stage.new ≡ stages.Operand }
+{
+    *stage = Stage::Operand;
+}
+
+/// Arguments have begun.
+#[inline(always)]
+pub fn set_first_argument(stage: &mut Stage<'_>)
+    ensures { stage.new ≡ stages.FirstArgument }
+{
+    *stage = Stage::FirstArgument;
+}
+
+/// A comma of arguments was read.
+#[inline(always)]
+pub fn set_argument(stage: &mut Stage<'_>)
+    ensures { stage.new ≡ stages.Argument }
+{
+    *stage = Stage::Argument;
+}
+
+/// A list has begun.
+#[inline(always)]
+pub fn set_first_element(stage: &mut Stage<'_>)
+    ensures { stage.new ≡ stages.FirstElement }
+{
+    *stage = Stage::FirstElement;
+}
+
+/// A comma of a list was read.
+#[inline(always)]
+pub fn set_element(stage: &mut Stage<'_>)
+    ensures { stage.new ≡ stages.Element }
+{
+    *stage = Stage::Element;
+}
+
+/// From here on an expression of a body or an item of the source may begin.
+#[inline(always)]
+pub fn set_sequence(stage: &mut Stage<'_>)
+    ensures { stage.new ≡ stages.Sequence }
+{
+    *stage = Stage::Sequence;
+}
+
+/// An expression that takes neither arguments nor a body was read, and is held.
+#[inline(always)]
+pub fn set_whole(stage: &mut Stage<'_>)
+    ensures { stage.new ≡ stages.Whole }
+{
+    *stage = Stage::Whole;
+}
+
+/// A list, or a member of one, was read, and is held.
+#[inline(always)]
+pub fn set_listed(stage: &mut Stage<'_>)
+    ensures { stage.new ≡ stages.Listed }
+{
+    *stage = Stage::Listed;
+}
+
+/// A word or path was read, which may have arguments or a body.
+#[inline(always)]
+pub fn set_word<'a>(stage: &mut Stage<'a>, spot: Spot, word: SyntaxText<'a>)
+    ensures { stage.new ≡ stages.Word spot word.entry }
+{
+    *stage = Stage::Word { spot, word };
+}
+
+/// A word or path with its arguments was read, which are held, and may have a body.
+#[inline(always)]
+pub fn set_called<'a>(stage: &mut Stage<'a>, spot: Spot, word: SyntaxText<'a>)
+    ensures { stage.new ≡ stages.Called spot word.entry }
+{
+    *stage = Stage::Called { spot, word };
 }

@@ -8,7 +8,7 @@ use Rattle.asl_parser.proofs.calls.call.Goals as goal
 pub returns-in-Closed-clause-passes : goal.returns-in-Closed-clause-passes
 returns-in-Closed-clause-passes c =
     let t = c.args.first.now in
-    closed_over (marks 0 c.args.tokens.now) c.args.from c.in_ok-next.next c.in_ok-next.read c.args.stack.now c.hold_arguments.new.stack (mark c.args.number t).spot t.text c.in_ok-word.word c.in_ok-next.ensures c.in-Closed.is c.requires.none c.in_ok-word.ensures
+    rw c.set_called.ensures (closed_over (marks 0 c.args.tokens.now) c.args.from c.in_ok-next.next c.in_ok-next.read c.args.stack.now c.hold_arguments.new.stack (mark c.args.number t).spot t.text c.in_ok-word.word c.in_ok-next.ensures c.in-Closed.is c.requires.none c.in_ok-word.ensures)
 
 pub returns-clause-passes : goal.returns-clause-passes
 returns-clause-passes c =

@@ -7,7 +7,7 @@ use Rattle.asl_parser.proofs.Settled.{operator_opens}
 use Rattle.asl_parser.proofs.machine.operator.Goals as goal
 
 pub returns : goal.returns
-returns c = (
+returns c = rw c.set_operand.ensures (
   operator_opens c.args.spot c.args.op c.args.strength c.settle.new.stack c.open.new.self (settle c.args.strength.pull (tree_of c.args.stack.now.0) c.args.stack.now.1) c.in_ok-settle.ensures.stack c.in_ok-settle.ensures.one (omega (arith, c.if-room-strength.false, c.room.ensures)) c.in_ok-open.ensures,
   ap (λ (v : Subtrees × List Frame). v.0) c.in_ok-open.ensures,
 )

@@ -9,4 +9,4 @@ pub returns-then-branch-clause-passes : goal.returns-then-branch-clause-passes
 returns-then-branch-clause-passes c =
     let t = mark c.args.number c.args.first.now in
     let adds = subst (λ (b : Bool). AddsNode b (plain t) c.args.stack.now c.add_plain.new.stack) c.if-branch.true c.in_ok-add_plain.ensures in
-    argument_goes_over t (mark (suc c.args.number) c.args.second.now) (state_of c.args.stage.now c.args.stack.now.0) (plain t) c.args.stack.now c.add_plain.new.stack refl adds c.requires.begins c.requires.args c.requires.comma
+    rw c.set_argument.ensures (argument_goes_over t (mark (suc c.args.number) c.args.second.now) (state_of c.args.stage.now c.args.stack.now.0) (plain t) c.args.stack.now c.add_plain.new.stack refl adds c.requires.begins c.requires.args c.requires.comma)

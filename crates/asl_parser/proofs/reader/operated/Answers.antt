@@ -19,14 +19,14 @@ pub operate-requires-clause-one : goal.operate-requires-clause-one
 operate-requires-clause-one c = one_held c.args.stage.now c.args.stack.now.0 c.requires.whole c.requires.holds
 
 pub operate-requires-clause-sign : goal.operate-requires-clause-sign
-operate-requires-clause-sign c = sym c.requires.look ∙ ap (λ (look : Look). lexeme_of look c.args.token.now) c.in-Some.ensures
+operate-requires-clause-sign c = sym c.requires.look ∙ ap (λ (look : Look). lexeme_of look c.args.token.now) c.in-Some.ensures.operator
 
 pub returns-in-Ok-true-clause-advances : goal.returns-in-Ok-true-clause-advances
 returns-in-Ok-true-clause-advances c =
     let a = c.args in let t = a.token.now in let u = c.index-tokens-at.result in let v = c.index-tokens-at-2.result in
     let old = a.stack.now in let new = c.operate.new.stack in
     let read = operated_so c.in-Ok-true.field-0 (mark a.at t) (mark (a.at + 1) u) (mark (a.at + 2) v) old new c.in-Ok-true.field-0-test c.in-Ok-true.ensures in
-    let on = operated_on a.tokens.now a.at t u v (st.Whole (tree_of old.0), old.1) (st.Whole (tree_of new.0), new.1) (omega arith) c.requires.token c.index-tokens-at.is c.index-tokens-at-2.is read.1 in
+    let on = operated_on a.tokens.now a.at t u v (st.Whole (tree_of old.0), old.1) (st.Whole (tree_of new.0), new.1) (omega (arith, c.in-Some.ensures.left)) c.requires.token c.index-tokens-at.is c.index-tokens-at-2.is read.1 in
     subst (λ (s : Stage). Advances (marks 0 a.tokens.now) a.at (a.at + 2) (state_of s old.0, old.1) (state_of s new.0, new.1)) (sym c.requires.whole) on
 
 pub returns-in-Ok-true-clause-holds : goal.returns-in-Ok-true-clause-holds

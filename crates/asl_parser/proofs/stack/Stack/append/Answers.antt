@@ -9,7 +9,7 @@ use Rattle.asl_parser.proofs.stack.Stack.append.Goals as goal
 
 pub returns : goal.returns
 returns c =
-    let i = c.self.inside in let os = reverse i.outer.items in let nodes = c.push.new.self.items in
+    let i = c.self.inside in let os = reverse i.outer.items in let nodes = c.push.new.nodes.items in
     let g : FrameGroup = record { start = i.innermost.group.start; kept = i.innermost.group.kept; levels = c.join_one.new.self } in
     let hand : FrameGroup = record { start = c.count-self-inside.result; kept = i.hand.kept; levels = i.hand.levels } in
     let lists_is = ap lists (kind_is i.nodes.items i.hand i.innermost os c.args.self.now c.self.view_is) ∙ c.requires.lists in

@@ -10,5 +10,5 @@ pub returns : goal.returns
 returns c =
     let i = c.self.inside in
     let g : FrameGroup = record { start = i.hand.start; kept = i.hand.kept; levels = c.join_one.new.self } in
-    held_behind i.nodes.items c.push.new.self.items i.hand g (i.innermost ∷ reverse i.outer.items) c.args.first c.args.raw c.self.invariant.held c.in_ok-push.ensures.items refl refl c.join_one.ensures
+    held_behind i.nodes.items c.push.new.nodes.items i.hand g (i.innermost ∷ reverse i.outer.items) c.args.first c.args.raw c.self.invariant.held c.in_ok-push.ensures.items refl refl c.join_one.ensures
     ∙ ap (λ (v : Subtrees × List Frame). (joined v.0 (leaf c.args.first c.args.raw), v.1)) c.self.view_is

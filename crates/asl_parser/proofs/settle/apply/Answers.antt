@@ -1,7 +1,7 @@
 use Rattle.std.proofs.Common.{sym, ◌∙◌}
 use Rattle.asl_parser.specs.Opens.{tree_of}
 use Rattle.asl_parser.proofs.Settled.{applied_top}
-use Rattle.asl_parser.proofs.machine.apply.Goals as goal
+use Rattle.asl_parser.proofs.settle.apply.Goals as goal
 
 pub returns-in_ok-apply-clause-stack : goal.returns-in_ok-apply-clause-stack
 returns-in_ok-apply-clause-stack c =

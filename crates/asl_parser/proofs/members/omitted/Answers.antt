@@ -6,7 +6,7 @@ use Rattle.asl_parser.specs.Machine.{listed}
 use Rattle.asl_parser.specs.Looks.{lexeme_of}
 use Rattle.asl_parser.specs.Stages.{StepsTo}
 use Rattle.asl_parser.proofs.Settled.{omits}
-use Rattle.asl_parser.proofs.machine.omitted.Goals as goal
+use Rattle.asl_parser.proofs.members.omitted.Goals as goal
 
 pub returns-in_ok-hold-in-Args : goal.returns-in_ok-hold-in-Args
 returns-in_ok-hold-in-Args c =

@@ -4,7 +4,7 @@ use Rattle.asl_parser.specs.declared.frame.Frame.{Frame}
 use Rattle.asl_parser.specs.Machine.{settle}
 use Rattle.asl_parser.specs.Opens.{tree_of}
 use Rattle.asl_parser.proofs.Settled.{settled, settles}
-use Rattle.asl_parser.proofs.machine.settle.Goals as goal
+use Rattle.asl_parser.proofs.settle.settle.Goals as goal
 
 pub loop-stack-preserved : goal.loop-stack-preserved
 loop-stack-preserved c =
