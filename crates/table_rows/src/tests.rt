@@ -3,6 +3,7 @@ mod of_aml_code;
 mod of_aml_sizes;
 mod of_aml_writer;
 mod of_asl_fold;
+mod of_core_nodes;
 mod of_field_layout;
 mod of_switch_loops;
 

@@ -1,0 +1,4 @@
+pub mod Naming
+pub mod Folding
+pub mod Looping
+pub mod Counting

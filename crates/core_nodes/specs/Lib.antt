@@ -1,0 +1,4 @@
+pub mod Nodes
+pub mod Weights
+pub mod Whole
+pub mod Forms
