@@ -7,8 +7,9 @@ use Rattle.asl_parser.specs.Within.{IsIn}
 use Rattle.asl_shape.specs.Places.{AreTold}
 use Rattle.asl_shape.specs.Plans.{Plan, a_call, a_form, Plans, no_plans, plan}
 use Rattle.asl_numbers.specs.Numbers.{nodes}
-use Rattle.form_counts.specs.Counts.{formed_nodes}
-use Rattle.form_counts.specs.Copies.{is_for, earlier, for_at, first_for, at_for, many_copies, too_many_copies}
+use Rattle.asl_tree.specs.Tree.{Trees}
+use Rattle.core_nodes.specs.Nodes.{nodes_in}
+use Rattle.copy_checks.specs.Copies.{is_for, earlier, for_at, first_for, at_for, many_copies, too_many_copies}
 use Rattle.descriptor_shapes.specs.Places.{PlanWithin, PlansWithin}
 use Rattle.program_shapes.proofs.ListPlaces.{as_all}
 
@@ -44,7 +45,7 @@ module _ (files : ℕ) where
   by_count true place h = tt
   by_count false place h = (h, tt)
 
-pub copies_within : (files : ℕ) (block : Place) (ps : Plans) → block.file < files → PlansWithin files ps → All (λ m. m.place.file < files) (too_many_copies block ps)
-copies_within files block ps h k =
-    as_all files (too_many_copies block ps)
-    (by_count files (nat_lt (nodes ps + formed_nodes ps) 4294967296) (at_for (first_for ps) block) (at_within files (first_for ps) block (first_within files ps k) h))
+pub copies_within : (files : ℕ) (block : Place) (ps : Plans) (core : Trees) → block.file < files → PlansWithin files ps → All (λ m. m.place.file < files) (too_many_copies block ps core)
+copies_within files block ps core h k =
+    as_all files (too_many_copies block ps core)
+    (by_count files (nat_lt (nodes ps + nodes_in core) 4294967296) (at_for (first_for ps) block) (at_within files (first_for ps) block (first_within files ps k) h))

@@ -38,7 +38,7 @@ use Rattle.block_outcomes.specs.declared.outcome.Outcome.{Outcome}
 use Rattle.block_outcomes.specs.declared.outcome.Outcome.TheVariants.{Done, Faulty}
 use Rattle.asl_tables.specs.Syntax.{at_token}
 use Rattle.asl_tables.specs.declared.compile.Style.{Style}
-use Rattle.asl_tables.specs.Compiled.{own_in, literals_in, noted_in, all_noted, told_in, others_in, copies_in, unlowered_in, AreWithin, too_long, of_table, unless_wrong, outcome_in, outcomes_in, of_items, written_in, cut_in, TellsWithin}
+use Rattle.asl_tables.specs.Compiled.{own_in, literals_in, noted_in, all_noted, told_in, others_in, copies_in, unlowered_in, lowered_as, AreWithin, too_long, of_table, unless_wrong, outcome_in, outcomes_in, of_items, written_in, cut_in, TellsWithin}
 use Rattle.block_checks.specs.Told.{is_of_kinds, with_others}
 use Rattle.block_outcomes.specs.Joined.{first_told, unless_refused, unless_noted, class_in, is_class_in, if_class, of_class, later_errors, tables_among, joined}
 
@@ -101,9 +101,9 @@ module _ (files : ℕ) where
       let others = All-append (λ (m : Message). m.place.file < files) (statements_in items ++ layouts_in items ++ regions_in items ++ types_in items ++ sizes_in items) (values_in items) sizes (repeats_within files (width_in items) (plans_in items) plans) in
       let table = of_table (block_place (writtens items)) (fields_in items).signature (own_in items) (written_in style items) (cut_in style lines items) in
       let place = block_home (writtens items) parts main in
-      let unlowered = All-append (λ (m : Message). m.place.file < files) (locals_in items) (copies_in items) (locals_within files (terms_in items) (plans_in items) main plans) (copies_within files (block_place (writtens items)) (plans_in items) place plans) in
-      wrong_home (with_others (told_in items) (others_in items)) (unless_wrong (unlowered_in items) table) (statements_home (told_in items) (others_in items) names others)
-      (wrong_home (unlowered_in items) table unlowered
+      let unlowered = first_home (locals_in items) (copies_in style items) (locals_within files (terms_in items) (plans_in items) main plans) (copies_within files (block_place (writtens items)) (plans_in items) (lowered_as style (fields_in items) (terms_in items)) place plans) in
+      wrong_home (with_others (told_in items) (others_in items)) (unless_wrong (unlowered_in style items) table) (statements_home (told_in items) (others_in items) names others)
+      (wrong_home (unlowered_in style items) table unlowered
       (of_table_home (block_place (writtens items)) (fields_in items).signature (own_in items) (written_in style items) (cut_in style lines items) place))
 
   noted_home : (items : List Raw) → PartsWithin files (writtens items) → AreWithin files (noted_in items)

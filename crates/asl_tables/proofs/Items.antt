@@ -171,8 +171,8 @@ one_ascii style lines items e kept = by_names (with_others (told_in items) (othe
     by_lowering [] h = by_length (nat_le (length (written_in style items)) most_table_bytes) h
     by_lowering (m ∷ ms) h = tt
 
-    by_names : (ms : List Message) → IsAscii (own_in items) → HasAsciiName (unless_wrong ms (unless_wrong (unlowered_in items) (of_table place (fields_in items).signature (own_in items) (written_in style items) (cut_in style lines items))))
-    by_names [] h = by_lowering (unlowered_in items) h
+    by_names : (ms : List Message) → IsAscii (own_in items) → HasAsciiName (unless_wrong ms (unless_wrong (unlowered_in style items) (of_table place (fields_in items).signature (own_in items) (written_in style items) (cut_in style lines items))))
+    by_names [] h = by_lowering (unlowered_in style items) h
     by_names (m ∷ ms) h = tt
 
 each_ascii : (style : Style) (lines : List Line) (raws : List Raw) → AreRight raws → AreKeptAlone raws → HaveAsciiNames (tables_among (outcomes_in style lines raws))

@@ -6,5 +6,7 @@ pub mod Items
 pub mod Sources
 pub mod Homes
 pub mod Given
+pub mod Absent
+pub mod Early
 pub mod CopyPlaces
 pub mod Results

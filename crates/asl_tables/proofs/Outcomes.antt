@@ -12,12 +12,11 @@ use Rattle.asl_parser.specs.Marks.{marks}
 use Rattle.asl_parser.specs.Parse.{outcome, read, stopped, sunk, tall}
 use Rattle.std.proofs.lemmas.List.{length-drop}
 use Rattle.std.specs.Prelude.{IfOk, IfErr}
-use Rattle.std.specs.declared.alloc.AllocError.{AllocError}
 use Rattle.block_outcomes.specs.declared.outcome.Compiled.{Compiled}
 use Rattle.block_outcomes.specs.declared.outcome.Compiled.TheVariants.{Refused}
 use Rattle.asl_tables.specs.Syntax.{not_source, too_deep}
 use Rattle.asl_tables.specs.declared.compile.Style.{Style}
-use Rattle.asl_tables.specs.Compiled.{all_noted, outcomes_in, of_items, of_outcome, of_tokens, of_lines, HasAsciiNames}
+use Rattle.asl_tables.specs.Compiled.{all_noted, outcomes_in, of_items, of_outcome, of_tokens, of_lines}
 use Rattle.asl_tables.specs.declared.compile.ReadBlock.{ReadBlock}
 use Rattle.asl_tables.specs.Reads.{AreReadOf, items_in, IsSourceOf, IsRefusalOf, UnlessMemory}
 use Rattle.asl_shape.specs.Forms.{source_errors}

@@ -179,15 +179,16 @@ same_places : (items : List Raw) (block : Block) → IsResolvedOf items block �
 same_places items block h = ap core_places h.terms
 
 -- what of it cannot be lowered is what cannot of its source
-same_unlowered : (items : List Raw) (block : Block) (terms : Trees) → IsResolvedOf items block → terms ≡ numbered_all 0 (plans_of block.terms.items) → unlowered block.place terms (plans_of block.terms.items) ≡ unlowered_in items
-same_unlowered items block terms h is =
-    ap (λ p. unlowered p terms (plans_of block.terms.items)) (same_place items block h)
-    ∙ ap (λ ts. unlowered (block_place (writtens items)) ts (plans_of block.terms.items)) (same_terms items block terms h is)
-    ∙ ap (unlowered (block_place (writtens items)) (terms_in items)) h.terms
+same_unlowered : (style : Style) (items : List Raw) (block : Block) (terms : Trees) → IsResolvedOf items block → terms ≡ numbered_all 0 (plans_of block.terms.items) → unlowered style (fields_of block) block.place terms (plans_of block.terms.items) ≡ unlowered_in style items
+same_unlowered style items block terms h is =
+    ap (λ f. unlowered style f block.place terms (plans_of block.terms.items)) (same_fields items block h)
+    ∙ ap (λ p. unlowered style (fields_in items) p terms (plans_of block.terms.items)) (same_place items block h)
+    ∙ ap (λ ts. unlowered style (fields_in items) (block_place (writtens items)) ts (plans_of block.terms.items)) (same_terms items block terms h is)
+    ∙ ap (unlowered style (fields_in items) (block_place (writtens items)) (terms_in items)) h.terms
 
 -- and it comes to what its source comes to
 pub block_comes : (style : Style) (lines : List Line) (items : List Raw) (block : Block) (terms : Trees) (inner : List Place) (names statements few : List Message) (it : Outcome) → IsResolvedOf items block → terms ≡ numbered_all 0 (plans_of block.terms.items)
-    → inner ≡ core_places (plans_of block.terms.items) → names ≡ told_in items → statements ≡ others_in items → few ≡ unlowered block.place terms (plans_of block.terms.items)
+    → inner ≡ core_places (plans_of block.terms.items) → names ≡ told_in items → statements ≡ others_in items → few ≡ unlowered style (fields_of block) block.place terms (plans_of block.terms.items)
     → it ≡ of_terms style lines block.place inner block.file (fields_of block) names statements few (described_in items) terms → it ≡ outcome_in style lines items
 block_comes style lines items block terms inner names statements few it h is places told are lacks comes =
     let at = block_place (writtens items) in
@@ -199,8 +200,8 @@ block_comes style lines items block terms inner names statements few it h is pla
     ∙ ap (λ f. of_terms style lines at core (own_in items) f names statements few (described_in items) terms) (same_fields items block h)
     ∙ ap (λ ns. of_terms style lines at core (own_in items) (fields_in items) ns statements few (described_in items) terms) told
     ∙ ap (λ ss. of_terms style lines at core (own_in items) (fields_in items) (told_in items) ss few (described_in items) terms) are
-    ∙ ap (λ fs. of_terms style lines at core (own_in items) (fields_in items) (told_in items) (others_in items) fs (described_in items) terms) (lacks ∙ same_unlowered items block terms h is)
-    ∙ ap (of_terms style lines at core (own_in items) (fields_in items) (told_in items) (others_in items) (unlowered_in items) (described_in items)) (same_terms items block terms h is)
+    ∙ ap (λ fs. of_terms style lines at core (own_in items) (fields_in items) (told_in items) (others_in items) fs (described_in items) terms) (lacks ∙ same_unlowered style items block terms h is)
+    ∙ ap (of_terms style lines at core (own_in items) (fields_in items) (told_in items) (others_in items) (unlowered_in style items) (described_in items)) (same_terms items block terms h is)
 
 -- a block in whose names nothing is wrong
 pub right_comes : (r : Result Outcome AllocError) (errors : List Message) (it : Outcome) → errors ≡ [] → IfOk r (λ made. made ≡ it) → IfOk r (λ made. made ≡ unless_wrong errors it)

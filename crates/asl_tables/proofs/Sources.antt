@@ -30,8 +30,8 @@ nothing_told : (items : List Raw) → IsRight items → told_in items ≡ []
 nothing_told items right = none_first (names_in items) (uses_in items) right.names right.uses
 
 -- nor is anything of it not lowered
-all_lowered : (items : List Raw) → IsRight items → copies_in items ≡ [] → unlowered_in items ≡ []
-all_lowered items right copies = ap (λ ms. ms ++ copies_in items) right.locals ∙ copies
+all_lowered : (style : Style) (items : List Raw) → IsRight items → copies_in style items ≡ [] → unlowered_in style items ≡ []
+all_lowered style items right copies = none_first (locals_in items) (copies_in style items) right.locals copies
 
 -- what a right block comes to
 right_done : (style : Style) (lines : List Line) (items : List Raw) → IsRight items → IsWithin style items → outcome_in style lines items ≡ Done (fields_in items).signature (own_in items) (cut_in style lines items)
@@ -39,8 +39,8 @@ right_done style lines items right within =
     let place = block_place (writtens items) in
     let table = of_table place (fields_in items).signature (own_in items) (written_in style items) (cut_in style lines items) in
     let le : nat_le (length (written_in style items)) most_table_bytes ≡ true = le-leb (length (written_in style items)) most_table_bytes within.table in
-    ap (λ es. unless_wrong es (unless_wrong (unlowered_in items) table)) (none_behind (told_in items) (others_in items) (nothing_told items right) (both_right items right))
-    ∙ ap (λ es. unless_wrong es table) (all_lowered items right within.copies)
+    ap (λ es. unless_wrong es (unless_wrong (unlowered_in style items) table)) (none_behind (told_in items) (others_in items) (nothing_told items right) (both_right items right))
+    ∙ ap (λ es. unless_wrong es table) (all_lowered style items right within.copies)
     ∙ ap (λ c. if c then Done (fields_in items).signature (own_in items) (cut_in style lines items) else Faulty (too_long place ∷ [])) le
 
 -- and right blocks
@@ -109,23 +109,23 @@ done_right style lines items form h = by_names (with_others (told_in items) (oth
     by_size true e h = grind (arith, nat_tests)
     by_size false e h = absurd h
 
-    by_lowering : (ms : List Message) → unlowered_in items ≡ ms → (locals_in items ≡ [] → IsRight items) → IsDone (unless_wrong ms table) → IsRight items × IsWithin style items
+    by_lowering : (ms : List Message) → unlowered_in style items ≡ ms → (locals_in items ≡ [] → IsRight items) → IsDone (unless_wrong ms table) → IsRight items × IsWithin style items
     by_lowering [] e right h =
-        let none = both_empty (locals_in items) (copies_in items) e in
+        let none = both_first (locals_in items) (copies_in style items) e in
         (right none.0, record { copies = none.1; table = by_size (nat_le (length (written_in style items)) most_table_bytes) refl h })
     by_lowering (m ∷ ms) e right h = absurd h
 
-    by_names : (ms : List Message) → with_others (told_in items) (others_in items) ≡ ms → IsDone (unless_wrong ms (unless_wrong (unlowered_in items) table)) → IsRight items × IsWithin style items
+    by_names : (ms : List Message) → with_others (told_in items) (others_in items) ≡ ms → IsDone (unless_wrong ms (unless_wrong (unlowered_in style items) table)) → IsRight items × IsWithin style items
     by_names [] e h =
         let none = both_none (told_in items) (others_in items) e in
         let told = both_first (names_in items) (uses_in items) none.0 in
         let others = none_of_others items none.1 in
-        by_lowering (unlowered_in items) refl (λ locals. record { form = form; names = told.0; uses = told.1; statements = others.statements; layouts = others.layouts; regions = others.regions; types = others.types; sizes = others.sizes; values = others.values; locals = locals }) h
+        by_lowering (unlowered_in style items) refl (λ locals. record { form = form; names = told.0; uses = told.1; statements = others.statements; layouts = others.layouts; regions = others.regions; types = others.types; sizes = others.sizes; values = others.values; locals = locals }) h
     by_names (m ∷ ms) e h = absurd h
 
 -- what is wrong with a block is something
 some_in : (style : Style) (lines : List Line) (items : List Raw) → IsSome (outcome_in style lines items)
-some_in style lines items = by (with_others (told_in items) (others_in items)) (unlowered_in items)
+some_in style lines items = by (with_others (told_in items) (others_in items)) (unlowered_in style items)
   where
     place : Place
     place = block_place (writtens items)

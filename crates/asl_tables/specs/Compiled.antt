@@ -35,14 +35,14 @@ use Rattle.source_pieces.specs.Places.{core_places}
 use Rattle.source_pieces.specs.Pieces.{pieces_in}
 use Rattle.literal_checks.specs.Literals.{cut_literals_at}
 use Rattle.switch_checks.specs.Locals.{few_locals}
-use Rattle.form_counts.specs.Copies.{too_many_copies}
+use Rattle.copy_checks.specs.Copies.{too_many_copies}
 use Rattle.asl_tables.specs.declared.compile.Style.{Style}
 use Rattle.block_outcomes.specs.declared.outcome.Compiled.{Compiled}
 use Rattle.block_outcomes.specs.declared.outcome.Compiled.TheVariants.{Made, Refused}
 use Rattle.block_outcomes.specs.declared.outcome.Outcome.{Outcome}
 use Rattle.block_outcomes.specs.declared.outcome.Outcome.TheVariants.{Done, Faulty}
 use Rattle.block_outcomes.specs.declared.outcome.Table.{Table}
-use Rattle.block_outcomes.specs.Joined.{unless_refused, joined}
+use Rattle.block_outcomes.specs.Joined.{unless_refused, joined, first_told}
 use Rattle.block_checks.specs.Told.{told_of_names, with_others}
 use Rattle.asl_tables.specs.Syntax.{not_source, too_deep}
 
@@ -87,9 +87,14 @@ of_right style lines place inner own fields also terms =
     of_table place fields.signature own (table_with style fields also core)
     (its_pieces style lines (place ∷ placed_where style.wrap lowered inner) fields also core)
 
--- what of terms of a block at this place cannot be lowered: Switches for which too few Locals are free, and then too many copies
-abbrev pub unlowered : Place → Trees → Plans → List Message
-unlowered block terms ps = few_locals terms ps ++ too_many_copies block ps
+-- too many copies of terms of a block at this place: their nodes, and those of their core before Externals are put into Ifs, are
+-- together to have numbers of 32 bits
+abbrev pub copies_of : Style → HeaderFields → Place → Trees → Plans → List Message
+copies_of style fields block terms ps = too_many_copies block ps (lowered_as style fields terms)
+
+-- what of them cannot be lowered: Switches for which too few Locals are free, or where there are none such, too many copies
+abbrev pub unlowered : Style → HeaderFields → Place → Trees → Plans → List Message
+unlowered style fields block terms ps = first_told (few_locals terms ps) (copies_of style fields block terms ps)
 
 -- a block of this form that is refused with what is wrong with its names, its statements or the lists of its fields,
 -- and where nothing is, with what of it cannot be lowered
@@ -127,20 +132,19 @@ others_in items = statements_in items ++ layouts_in items ++ regions_in items ++
 abbrev pub told_in : List Raw → List Message
 told_in items = told_of_names (source_in items)
 
--- too many copies in it: its nodes, and those that it has with what stands for its Fors and for what prints, are together to have
--- numbers of 32 bits
-abbrev pub copies_in : List Raw → List Message
-copies_in items = too_many_copies (block_place (writtens items)) (plans_in items)
+-- too many copies in it: its nodes, and those of its core, are together to have numbers of 32 bits
+abbrev pub copies_in : Style → List Raw → List Message
+copies_in style items = copies_of style (fields_in items) (block_place (writtens items)) (terms_in items) (plans_in items)
 
 -- what of it cannot be lowered
-abbrev pub unlowered_in : List Raw → List Message
-unlowered_in items = locals_in items ++ copies_in items
+abbrev pub unlowered_in : Style → List Raw → List Message
+unlowered_in style items = first_told (locals_in items) (copies_in style items)
 
 -- what a block comes to
 abbrev pub outcome_in : Style → List Line → List Raw → Outcome
 outcome_in style lines items =
     of_terms style lines (block_place (writtens items)) (core_places (plans_in items)) (own_in items) (fields_in items) (told_in items)
-    (others_in items) (unlowered_in items) (described_in items) (terms_in items)
+    (others_in items) (unlowered_in style items) (described_in items) (terms_in items)
 
 -- what each of some blocks comes to, in a namespace of its own
 abbrev pub outcomes_in : Style → List Line → List Raw → List Outcome
@@ -164,7 +168,7 @@ tables_of style lines (item ∷ items) = record {
 
 -- not too many copies are made of a block that is read alone, and its table is not too long
 pub record IsWithin (style : Style) (items : List Raw) : Type 0 where
-  pub copies : copies_in items ≡ []
+  pub copies : copies_in style items ≡ []
   pub table : length (written_in style items) ≤ most_table_bytes
 
 -- so it is with each

@@ -1,7 +1,6 @@
 -- What is read of tokens before their blocks are checked.
-use Rattle.std.specs.Prelude.{◌≡◌, List, [], ◌∷◌, Result, Ok, Err, ⊤}
+use Rattle.std.specs.Prelude.{◌≡◌, List, [], ◌∷◌, Result, Err, ⊤}
 use Rattle.iasl_messages.specs.declared.place.Line.{Line}
-use Rattle.iasl_messages.specs.declared.message.Message.{Message}
 use Rattle.iasl_messages.specs.declared.message.Stage.{Stage}
 use Rattle.iasl_messages.specs.declared.message.Stage.TheVariants as stage
 use Rattle.asl_lexer.specs.declared.token.Token.{Token}

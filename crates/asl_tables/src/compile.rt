@@ -15,15 +15,13 @@ ghost use Rattle.asl_prints.specs.Forms.{formed_all};
 ghost use Rattle.asl_prints.specs.Plans.{formed_plans};
 ghost use Rattle.form_shapes.specs.Near.{AreNear};
 ghost use Rattle.hidden_locals.specs.Switches.{without_switches};
-ghost use Rattle.asl_shape.specs.Plans.{plans_of};
+ghost use Rattle.asl_shape.specs.Plans.{Plans, plans_of};
 ghost use Rattle.term_places.specs.Places.{places_of};
 ghost use Rattle.source_pieces.specs.Places.{core_places};
 ghost use Rattle.named_sessions.specs.Shaped.{AreFormed, AreNamed, AreShaped};
 ghost use Rattle.asl_lower.specs.Nodes.{named_all};
 ghost use Rattle.program_shapes.specs.Kept.{IsKeptSource, AreKeptAlone};
 ghost use Rattle.asl_fold.specs.Folds.{folded_where};
-ghost use Rattle.wrapped_externals.specs.Wraps.{wrapped_where};
-ghost use Rattle.wrapped_externals.specs.Starts.{placed_where};
 ghost use Rattle.program_shapes.proofs.Kept.{HaveShortTexts};
 ghost use Rattle.aml_sizes.specs.Pieces.{joined_pieces};
 ghost use Rattle.aml_writer.specs.Cuts.{IsCut};
@@ -35,7 +33,10 @@ ghost use Rattle.switch_checks.specs.Locals as locals;
 ghost use Rattle.block_checks.specs.Findings.{AreNamesOf, IsNamed};
 ghost use Rattle.block_checks.specs.Present.{IsPresenceOf};
 ghost use Rattle.block_checks.specs.Told.{with_others};
-ghost use Rattle.asl_tables.specs.Compiled.{its_table, its_pieces, of_table, of_right, of_terms, unlowered as not_lowered};
+ghost use Rattle.asl_tables.specs.Compiled.{its_table, its_pieces, lowered_as, of_table, of_right, of_terms, unlowered as not_lowered};
+ghost use Rattle.asl_tables.specs.Compiled.{copies_of, unless_wrong};
+ghost use Rattle.asl_tables.specs.Early.{WeighsNoMore, IsToldEarly};
+ghost use Rattle.copy_checks.specs.Copies.{IsSizeOf, too_many_copies};
 ghost use Rattle.asl_tables.specs.Compiled.{outcome_in, outcomes_in, noted_in, all_noted, of_lines, of_outcome, HasAsciiNames};
 ghost use Rattle.asl_tables.specs.Compiled.{TellsWithin};
 ghost use Rattle.asl_tables.specs.Reads.{IsReadOf, AreReadOf, IsRightRead, AreRightReads, items_in, IsSourceOf, IsRefusalOf, UnlessMemory};
@@ -58,7 +59,9 @@ use block_checks::names::{Findings, FoundNames};
 use block_outcomes::messages::{both, one_message, refusal};
 use block_outcomes::outcome::{Compiled, Outcome, join, none_sorted, with_outcome};
 use bumpalo::Bump;
-use form_counts::copies::copies_where;
+use copy_checks::copies::{ProgramSize, copies_told, program_size};
+use core_nodes::copied::copied_weight;
+use core_nodes::count::core_nodes;
 use form_presence::present::Presence;
 use iasl_messages::message::{Message, Messages, Stage};
 use iasl_messages::number::{NESTING_TOO_DEEP, SYNTAX};
@@ -170,33 +173,7 @@ fn lowered_terms(
     fold_where(alloc, fold, width, named)
 }
 
-// The same, with Externals in Ifs where that is asked for.
-fn core_terms(
-    alloc: Global,
-    style: Style,
-    width: Width,
-    terms: Vec<Node>,
-    present: Presence,
-) -> Result<Vec<Node>, AllocError>
-    requires formed { AreFormed (Unit {0}) AreNamed (Unit {0}) (Unit {0}) (trees_of terms.items) }
-    requires near { AreNear (trees_of terms.items) }
-    requires numbers { node_count (plans_of terms.items) < 2 ^ 32 }
-    requires present { IsPresenceOf (plans_of terms.items) present }
-    ensures terms { IfOk result
-        (λ core. trees_of core.items ≡ wrapped_where style.wrap
-        (folded_where style.fold width (named_all (without_switches (formed_all (trees_of terms.items)))))) }
-    ensures places { AreShaped (folded_where style.fold width (named_all (without_switches (formed_all (trees_of terms.items))))) →
-        IfOk result
-        (λ core. places_of core.items ≡ placed_where style.wrap
-        (folded_where style.fold width (named_all (without_switches (formed_all (trees_of terms.items)))))
-        (core_places (plans_of terms.items))) }
-{
-    let lowered = lowered_terms(alloc, style.fold, width, terms, present)?;
-    let core = wrap_where(alloc, style.wrap, lowered)?;
-    Ok(core)
-}
-
-// The block with the terms of its core, whose names are not spelled yet.
+// The block with the terms of its core, whose Externals stand as they are and whose names are not spelled yet.
 fn lowered(
     alloc: Global,
     style: Style,
@@ -207,29 +184,59 @@ fn lowered(
     requires near { AreNear (trees_of block.terms.items) }
     requires numbers { node_count (plans_of block.terms.items) < 2 ^ 32 }
     requires present { IsPresenceOf (plans_of block.terms.items) present }
-    ensures terms { IfOk result
-        (λ core. trees_of core.terms.items ≡ wrapped_where style.wrap
-        (folded_where style.fold (width_of block.revision) (named_all (without_switches (formed_all (trees_of block.terms.items)))))) }
-    ensures places { AreShaped
-        (folded_where style.fold (width_of block.revision) (named_all (without_switches (formed_all (trees_of block.terms.items))))) →
-        IfOk result
-        (λ core. places_of core.terms.items ≡ placed_where style.wrap
-        (folded_where style.fold (width_of block.revision) (named_all (without_switches (formed_all (trees_of block.terms.items)))))
-        (core_places (plans_of block.terms.items))) }
+    ensures terms { IfOk result (λ core. trees_of core.terms.items ≡ lowered_as style (fields_of block) (trees_of block.terms.items)) }
+    ensures places { IfOk result (λ core. places_of core.terms.items ≡ core_places (plans_of block.terms.items)) }
     ensures place { IfOk result (λ core. core.place ≡ block.place) }
     ensures file { IfOk result (λ core. core.file ≡ block.file) }
     ensures fields { IfOk result (λ core. fields_of core ≡ fields_of block) }
 {
     let mut core = block;
     let terms = replace(&mut core.terms, Vec::new(alloc));
-    core.terms = core_terms(
+    core.terms = lowered_terms(
         alloc,
-        style,
+        style.fold,
         Width::of_revision(core.revision),
         terms,
         present,
     )?;
     Ok(core)
+}
+
+// What is told of a program of such a size with these terms of its core: nothing, or that too many copies are made.
+fn core_errors(alloc: Global, size: ProgramSize, core: &[Node]) -> Result<Messages, AllocError>
+    requires { AreShaped (trees_of core.now) }
+    ensures { (block : Place) (ps : Plans) → IsSizeOf block ps size → IfOk result
+        (λ told. told ≡ too_many_copies block ps (trees_of core.now)) }
+{
+    copies_told(alloc, size, core_nodes(core))
+}
+
+// What the copies of the steps of Fors weigh, which are looked for where a For may stand.
+fn steps_weight(terms: &[Node], present: Presence) -> u64
+    requires { AreFormed (Unit {0}) AreNamed (Unit {0}) (Unit {0}) (trees_of terms.now) }
+    ensures { WeighsNoMore result (trees_of terms.now) }
+{
+    if present.forms {
+        copied_weight(terms)
+    } else {
+        0
+    }
+}
+
+// What is told of a program of such a size with these terms before a copy is made: nothing, where its nodes have numbers, or what would
+// be told of its core.
+fn early_errors(
+    alloc: Global,
+    size: ProgramSize,
+    terms: &[Node],
+    present: Presence,
+) -> Result<Messages, AllocError>
+    requires formed { AreFormed (Unit {0}) AreNamed (Unit {0}) (Unit {0}) (trees_of terms.now) }
+    requires near { AreNear (trees_of terms.now) }
+    ensures { (block : Place) → IsSizeOf block (plans_of terms.now) size → IfOk result
+        (IsToldEarly block (trees_of terms.now) (plans_of terms.now)) }
+{
+    copies_told(alloc, size, steps_weight(terms, present))
 }
 
 // The methods that leave too few Locals for their Switches, which are looked for where Switches stand.
@@ -245,26 +252,9 @@ fn local_errors(alloc: Global, terms: &[Node], present: Presence) -> Result<Mess
     }
 }
 
-// What of terms of a block at this place cannot be lowered: Switches for which too few Locals are free, and then too many copies.
-fn unlowered(
-    alloc: Global,
-    block: Place,
-    terms: &[Node],
-    present: Presence,
-) -> Result<Messages, AllocError>
-    requires { IsPresenceOf (plans_of terms.now) present }
-    ensures { IfOk result (λ ms. ms ≡ not_lowered block (trees_of terms.now) (plans_of terms.now)) }
-{
-    both(
-        local_errors(alloc, terms, present)?,
-        copies_where(alloc, block, terms, present)?,
-    )
-}
-
-// The names of terms in which nothing is wrong, or else what of them cannot be lowered.
+// The names of terms in which nothing is wrong, or else the methods that leave too few Locals for their Switches.
 fn right_or_few(
     alloc: Global,
-    block: Place,
     terms: &[Node],
     present: Presence,
     names: FoundNames,
@@ -272,9 +262,9 @@ fn right_or_few(
     ghost also: { AbsolutePath → Bool }
     requires names { AreNamesOf also (trees_of terms.now) names }
     requires present { IsPresenceOf (plans_of terms.now) present }
-    ensures { IfOk result (λ found. IsNamed found (not_lowered block (trees_of terms.now) (plans_of terms.now)) also (trees_of terms.now)) }
+    ensures { IfOk result (λ found. IsNamed found (locals.few_locals (trees_of terms.now) (plans_of terms.now)) also (trees_of terms.now)) }
 {
-    let few = unlowered(alloc, block, terms, present)?;
+    let few = local_errors(alloc, terms, present)?;
     if few.is_empty() {
         Ok(Findings::Right(names))
     } else {
@@ -282,11 +272,10 @@ fn right_or_few(
     }
 }
 
-// What is wrong with terms, of which the checks gave these names and errors, or else what of them cannot be lowered; and where nothing
-// is, their names.
+// What is wrong with terms, of which the checks gave these names and errors, or else Switches for which too few Locals are free; and
+// where there is nothing of these, their names.
 fn find(
     alloc: Global,
-    block: Place,
     terms: &[Node],
     present: Presence,
     names: Findings,
@@ -296,43 +285,41 @@ fn find(
     requires names { IsNamed names told.0 told.1 (trees_of terms.now) }
     requires present { IsPresenceOf (plans_of terms.now) present }
     ensures { IfOk result (λ found. IsNamed found
-        (first_told (with_others told.0 errors) (not_lowered block (trees_of terms.now) (plans_of terms.now))) told.1
+        (first_told (with_others told.0 errors) (locals.few_locals (trees_of terms.now) (plans_of terms.now))) told.1
         (trees_of terms.now)) }
 {
     match first_class(names, errors)? {
-        Findings::Right(names) => right_or_few(alloc, block, terms, present, names),
+        Findings::Right(names) => right_or_few(alloc, terms, present, names),
         Findings::Wrong(errors) => Ok(Findings::Wrong(errors)),
     }
 }
 
-// The table of a block in which nothing is wrong, whose names are these: with what stands for its Fors and for what prints, loops
-// for its Switches, its symbols named and its names spelled.
-fn table_of(
+// The table of a core that is lowered from terms with these names: with Externals in Ifs where that is asked for, and its names spelled.
+fn written(
     alloc: Global,
     style: Style,
     lines: &SourceLines<'_>,
     block: Block,
-    present: Presence,
     names: FoundNames,
 ) -> Result<Outcome, AllocError>
-    ghost also: { AbsolutePath → Bool }
+    ghost of: { Trees × (AbsolutePath → Bool) }
     requires room { FitsHeader (fields_of block) }
-    requires formed { AreFormed (Unit {0}) AreNamed (Unit {0}) (Unit {0}) (trees_of block.terms.items) }
-    requires near { AreNear (trees_of block.terms.items) }
-    requires numbers { node_count (plans_of block.terms.items) < 2 ^ 32 }
-    requires present { IsPresenceOf (plans_of block.terms.items) present }
-    requires shaped { AreShaped (named_all (without_switches (formed_all (trees_of block.terms.items)))) }
-    requires names { AreNamesOf also (trees_of block.terms.items) names }
-    ensures { IfOk result (λ it. it ≡ of_right style lines.now block.place (core_places (plans_of block.terms.items)) block.file
-        (fields_of block) also (trees_of block.terms.items)) }
+    requires formed { AreFormed (Unit {0}) AreNamed (Unit {0}) (Unit {0}) of.0 }
+    requires near { AreNear of.0 }
+    requires shaped { AreShaped (named_all (without_switches (formed_all of.0))) }
+    requires names { AreNamesOf of.1 of.0 names }
+    requires lowered { trees_of block.terms.items ≡ lowered_as style (fields_of block) of.0 }
+    ensures { IfOk result (λ it. it ≡ of_right style lines.now block.place (places_of block.terms.items) block.file (fields_of block) of.1
+        of.0) }
 {
-    let mut core = lowered(alloc, style, block, present)?;
     let FoundNames {
         index,
         calls,
         described,
     } = names;
-    let terms = replace(&mut core.terms, Vec::new(alloc));
+    let mut core = block;
+    let lowered = replace(&mut core.terms, Vec::new(alloc));
+    let terms = wrap_where(alloc, style.wrap, lowered)?;
     let spelled = spell(
         alloc,
         index,
@@ -343,6 +330,41 @@ fn table_of(
     )?;
     core.terms = spelled;
     write_core(alloc, style, lines, core)
+}
+
+// The table of a block in which nothing is wrong, whose names are these, or that too many copies are made of it: its core is counted once
+// it is lowered, and not made at all where the copies of the steps of its Fors alone are too many.
+fn table_of(
+    alloc: Global,
+    style: Style,
+    lines: &SourceLines<'_>,
+    block: Block,
+    present: Presence,
+    names: FoundNames,
+) -> Result<Outcome, AllocError>
+    ghost of: { Trees × (AbsolutePath → Bool) }
+    requires terms { trees_of block.terms.items ≡ of.0 }
+    requires room { FitsHeader (fields_of block) }
+    requires formed { AreFormed (Unit {0}) AreNamed (Unit {0}) (Unit {0}) of.0 }
+    requires near { AreNear of.0 }
+    requires present { IsPresenceOf (plans_of block.terms.items) present }
+    requires shaped { AreShaped (named_all (without_switches (formed_all of.0))) }
+    requires names { AreNamesOf of.1 of.0 names }
+    ensures { IfOk result (λ it. it ≡
+        unless_wrong (copies_of style (fields_of block) block.place of.0 (plans_of block.terms.items))
+        (of_right style lines.now block.place (core_places (plans_of block.terms.items)) block.file (fields_of block) of.1 of.0)) }
+{
+    let size = program_size(block.place, &block.terms, present);
+    let early = early_errors(alloc, size, &block.terms, present)?;
+    if !early.is_empty() {
+        return Ok(Outcome::Faulty(early));
+    }
+    let core = lowered(alloc, style, block, present)?;
+    let errors = core_errors(alloc, size, &core.terms)?;
+    if !errors.is_empty() {
+        return Ok(Outcome::Faulty(errors));
+    }
+    written(alloc, style, lines, core, names)
 }
 
 // What a block comes to, and the notes on it.
@@ -372,8 +394,8 @@ fn compile_noted(
     ensures outcome { IfOk result (λ it. it.outcome ≡
         of_terms style lines.now checked.block.place (core_places (plans_of checked.block.terms.items)) checked.block.file
         (fields_of checked.block) told.0 checked.errors
-        (not_lowered checked.block.place (trees_of checked.block.terms.items) (plans_of checked.block.terms.items)) told.1
-        (trees_of checked.block.terms.items)) }
+        (not_lowered style (fields_of checked.block) checked.block.place (trees_of checked.block.terms.items)
+        (plans_of checked.block.terms.items)) told.1 (trees_of checked.block.terms.items)) }
 {
     let CheckedBlock {
         block,
@@ -384,7 +406,7 @@ fn compile_noted(
     } = checked;
     let terms = block.terms.as_slice();
     let notes = both(literals, notes)?;
-    match find(alloc, block.place, terms, present, names, errors)? {
+    match find(alloc, terms, present, names, errors)? {
         Findings::Right(names) => {
             let outcome = table_of(alloc, style, lines, block, present, names)?;
             Ok(Noted { outcome, notes })

@@ -1,6 +1,6 @@
+mod of_copy_checks;
 mod of_descriptor_checks;
 mod of_field_checks;
-mod of_form_counts;
 mod of_region_checks;
 mod of_statement_checks;
 mod of_switch_checks;

@@ -63,7 +63,7 @@ first_class c (Faulty messages) os = refl
 
 -- it is what is wrong with the block that is read alone
 alone_told : (style : Style) (lines : List Line) (item : Raw) → told_of (outcome_in style lines (alone item)) ≡ errors_alone style item
-alone_told style lines item = by (with_others (told_in (alone item)) (others_in (alone item))) (unlowered_in (alone item)) (nat_le (length (written_in style (alone item))) most_table_bytes)
+alone_told style lines item = by (with_others (told_in (alone item)) (others_in (alone item))) (unlowered_in style (alone item)) (nat_le (length (written_in style (alone item))) most_table_bytes)
   where
     place : Place
     place = block_place (writtens (alone item))

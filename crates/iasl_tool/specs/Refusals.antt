@@ -46,7 +46,7 @@ length_wrong style item = if nat_le (length (written_in style (alone item))) mos
 -- too long.
 abbrev pub errors_alone : Style → Raw → List Message
 errors_alone style item = first_told (with_others (told_in (alone item)) (others_in (alone item)))
-    (first_told (unlowered_in (alone item)) (length_wrong style item))
+    (first_told (unlowered_in style (alone item)) (length_wrong style item))
 
 -- what is so wrong with the blocks in which it is of this class, in their order
 abbrev pub class_errors : Class → Style → List Raw → List Message

@@ -63,7 +63,7 @@ returns-clause-outcome c = λ item kept right read.
     let others : checked.errors ≡ others_in items = same_others items c.args.read.block checked.errors read.block is.errors in
     let first : told_by checked.names ≡ told_in items = same_told items c.args.read.block (told_by checked.names) read.block (told_is checked.names told also terms named) in
     let places = core_places (plans_of made.terms.items) in
-    let few = unlowered made.place terms (plans_of made.terms.items) in
+    let few = unlowered c.args.style (fields_of made) made.place terms (plans_of made.terms.items) in
     IfOk-weaker c.compile_noted.result _ _
     (λ it h. block_comes c.args.style c.args.lines.now items made terms places (told_by checked.names) checked.errors few it.outcome resolved trees refl first others refl
     (h ∙ comes_beside checked.names told also terms checked.errors few (λ beside. of_right c.args.style c.args.lines.now made.place places made.file (fields_of made) beside terms) named

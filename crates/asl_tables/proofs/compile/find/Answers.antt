@@ -1,7 +1,7 @@
 use Rattle.asl_tree.specs.View.{trees_of}
 use Rattle.asl_shape.specs.Plans.{plans_of}
 use Rattle.block_checks.specs.Told.{with_others}
-use Rattle.asl_tables.specs.Compiled.{unlowered}
+use Rattle.switch_checks.specs.Locals.{few_locals}
 use Rattle.asl_tables.proofs.Findings.{found_wrong, found_right}
 use Rattle.asl_tables.proofs.compile.find.Goals as goal
 
@@ -14,7 +14,7 @@ right_or_few-requires g c =
 pub returns-in-Right : goal.returns-in-Right
 returns-in-Right g c =
     let terms = trees_of c.args.terms.now in
-    let few = unlowered c.args.block terms (plans_of c.args.terms.now) in
+    let few = few_locals terms (plans_of c.args.terms.now) in
     let first = c.in_ok-names.ensures g.told.0 g.told.1 terms c.requires.0 in
     let right = (rw c.in-Right.is at first) in
     found_right c.right_or_few.result (with_others g.told.0 c.args.errors) few g.told.1 terms right.1 c.right_or_few.ensures
@@ -22,7 +22,7 @@ returns-in-Right g c =
 pub returns-in-Wrong : goal.returns-in-Wrong
 returns-in-Wrong g c =
     let terms = trees_of c.args.terms.now in
-    let few = unlowered c.args.block terms (plans_of c.args.terms.now) in
+    let few = few_locals terms (plans_of c.args.terms.now) in
     let first = c.in_ok-names.ensures g.told.0 g.told.1 terms c.requires.0 in
     let wrong = (rw c.in-Wrong.is at first) in
     found_wrong c.in-Wrong.errors (with_others g.told.0 c.args.errors) few wrong

@@ -1,4 +1,4 @@
-use Rattle.std.proofs.Common.{◌≡◌, Vec, Global, refl, sym, ap, ◌∙◌, subst}
+use Rattle.std.proofs.Common.{Vec, Global, refl, ap, ◌∙◌}
 use Rattle.acpi_values.specs.declared.width.Width.{Width}
 use Rattle.acpi_values.specs.Revisions.{width_of}
 use Rattle.asl_tree.specs.Tree.{Trees}
@@ -9,27 +9,18 @@ use Rattle.asl_lower.specs.Nodes.{named_all}
 use Rattle.asl_prints.specs.Forms.{formed_all}
 use Rattle.hidden_locals.specs.Switches.{without_switches}
 use Rattle.asl_shape.specs.Plans.{plans_of}
-use Rattle.named_sessions.specs.Shaped.{AreShaped}
 use Rattle.source_pieces.specs.Places.{core_places}
-use Rattle.wrapped_externals.specs.Wraps.{wrapped_where}
-use Rattle.wrapped_externals.specs.Starts.{placed_where}
 use Rattle.asl_tables.proofs.compile.lowered.Goals as goal
 
 pub returns-clause-terms : goal.returns-clause-terms
 returns-clause-terms c =
     let lowered : Width → Vec Node Global → Trees = λ width terms. folded_where c.args.style.fold width (named_all (without_switches (formed_all (trees_of terms.items)))) in
     c.in_ok-core.ensures.terms
-    ∙ ap (λ w. wrapped_where c.args.style.wrap (lowered w c.replace-terms.result)) c.of_revision.ensures
-    ∙ ap (λ ts. wrapped_where c.args.style.wrap (lowered (width_of c.args.block.revision) ts)) c.replace-terms.ensures.value
+    ∙ ap (λ w. lowered w c.replace-terms.result) c.of_revision.ensures
+    ∙ ap (lowered (width_of c.args.block.revision)) c.replace-terms.ensures.value
 
 pub returns-clause-places : goal.returns-clause-places
-returns-clause-places c shaped =
-    let lowered : Width → Vec Node Global → Trees = λ width terms. folded_where c.args.style.fold width (named_all (without_switches (formed_all (trees_of terms.items)))) in
-    let width : Width = width_of c.args.block.revision in
-    let same : lowered c.of_revision.result c.replace-terms.result ≡ lowered width c.args.block.terms = ap (λ w. lowered w c.replace-terms.result) c.of_revision.ensures ∙ ap (lowered width) c.replace-terms.ensures.value in
-    c.in_ok-core.ensures.places (subst AreShaped (sym same) shaped)
-    ∙ ap (λ ts. placed_where c.args.style.wrap ts (core_places (plans_of c.replace-terms.result.items))) same
-    ∙ ap (λ (ts : Vec Node Global). placed_where c.args.style.wrap (lowered width c.args.block.terms) (core_places (plans_of ts.items))) c.replace-terms.ensures.value
+returns-clause-places c = c.in_ok-core.ensures.places ∙ ap (λ (ts : Vec Node Global). core_places (plans_of ts.items)) c.replace-terms.ensures.value
 
 pub returns-clause-fields : goal.returns-clause-fields
 returns-clause-fields c = refl

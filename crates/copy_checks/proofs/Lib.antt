@@ -1,0 +1,4 @@
+pub mod Absent
+pub mod Searching
+pub mod Telling
+pub mod Terms

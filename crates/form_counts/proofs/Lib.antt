@@ -1,9 +1,0 @@
-pub mod Absent
-pub mod Counted
-pub mod Fitting
-pub mod Joining
-pub mod Parting
-pub mod Searching
-pub mod Sums
-pub mod Telling
-pub mod Terms
