@@ -15,7 +15,9 @@ import tempfile
 from pathlib import Path
 
 WRITTEN = [(0, 1), (1, 1), (3, 5), (100, 8), (1000, 33)]
-REFUSED = [(65536, 65536), (16384, 262144)]
+PLAIN = "If (Arg0) { Continue }"
+SWITCHED = "Switch (Arg0) { Case (1) { Continue } }"
+REFUSED = [(65536, 65536, PLAIN), (16384, 262144, PLAIN), (65536, 65536, SWITCHED)]
 
 
 def total(count):
@@ -33,8 +35,8 @@ def step_of(count):
     return f"Local0 = {text}", code[:-1] + b"\x60"
 
 
-def source(continues, step):
-    lines = [f"For (Local0 = 0, Local0 < 2, {step}) {{", *["If (Arg0) { Continue }"] * continues, "}"]
+def source(continues, step, turn):
+    lines = [f"For (Local0 = 0, Local0 < 2, {step}) {{", *[turn] * continues, "}"]
     return "\n".join(['DefinitionBlock ("", "SSDT", 2, "RATTLE", "COPIES", 1) {', "Method (M, 1) {", *lines, "}", "}", ""])
 
 
@@ -43,8 +45,8 @@ def bounded():
     resource.setrlimit(resource.RLIMIT_CPU, (60, 60))
 
 
-def compiled(iasl, folder, continues, step):
-    (folder / "t.asl").write_text(source(continues, step))
+def compiled(iasl, folder, continues, step, turn=PLAIN):
+    (folder / "t.asl").write_text(source(continues, step, turn))
     return subprocess.run([iasl, "t.asl"], cwd=folder, capture_output=True, text=True, preexec_fn=bounded, check=False)
 
 
@@ -60,11 +62,11 @@ def main():
             if copies != continues + 1:
                 faults += 1
                 print(f"{continues} Continues, {count} Locals: {copies}")
-        for continues, count in REFUSED:
-            run = compiled(iasl, folder, continues, step_of(count)[0])
+        for continues, count, turn in REFUSED:
+            run = compiled(iasl, folder, continues, step_of(count)[0], turn)
             if run.returncode != 1 or not run.stdout.startswith("t.asl:3:1: error 6062: too many copies"):
                 faults += 1
-                print(f"{continues} Continues, {count} Locals: {run.returncode} {run.stdout[:200]}")
+                print(f"{continues} of {turn}, {count} Locals: {run.returncode} {run.stdout[:200]}")
     print(f"{len(WRITTEN) + len(REFUSED)} sources, {faults} faults")
     return 1 if faults else 0
 

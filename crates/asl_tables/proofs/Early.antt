@@ -30,37 +30,42 @@ use Rattle.asl_tables.specs.declared.compile.Style.{Style}
 use Rattle.asl_tables.specs.Compiled.{copies_of, of_right, unless_wrong}
 use Rattle.asl_tables.specs.Early.{WeighsNoMore, IsToldEarly}
 use Rattle.asl_tables.proofs.Programs.{refused_is, right_comes}
-use Rattle.core_nodes.specs.Weights.{weights, copied_in}
+use Rattle.core_nodes.specs.Weights.{integer_weight, weights, copied_in}
 use Rattle.core_bounds.proofs.Looping.{loops_weigh}
 use Rattle.core_bounds.proofs.Naming.{weights_keep as names_weigh}
 use Rattle.core_bounds.proofs.Folding.{weights_keep as folding_weighs}
 use Rattle.core_bounds.proofs.Counting.{weights_count as nodes_weigh}
 use Rattle.form_bounds.proofs.Copies.{all_copies}
 
-folded_weighs : (fold : Bool) (width : Width) (terms : Trees) → weights terms ≤ weights (folded_where fold width terms)
+folded_weighs : (fold : Bool) (width : Width) (terms : Trees) → weights (integer_weight fold) terms ≤ weights (integer_weight fold) (folded_where fold width terms)
 folded_weighs true width terms = folding_weighs width terms
 folded_weighs false width terms = omega arith
 
+least : (fold : Bool) → integer_weight fold ≤ 1
+least true = omega arith
+least false = omega arith
+
 pub core_weighs : (terms : Trees) → AreFormed (Unit {0}) AreNamed (Unit {0}) (Unit {0}) terms → AreNear terms → (fold : Bool) (width : Width)
-    → copied_in 0 terms ≤ nodes_in (folded_where fold width (named_all (without_switches (formed_all terms))))
+    → copied_in (integer_weight fold) 0 terms ≤ nodes_in (folded_where fold width (named_all (without_switches (formed_all terms))))
 core_weighs terms formed near fold width =
+    let integer : ℕ = integer_weight fold in
     let plain : Trees = formed_all terms in
     let turns : Trees = without_switches plain in
     let named : Trees = named_all turns in
     let core : Trees = folded_where fold width named in
-    let one = all_copies AreNamed (Unit {0}) (Unit {0}) terms formed near in
-    let two = loops_weigh plain in
-    let three = names_weigh turns in
+    let one = all_copies integer AreNamed (Unit {0}) (Unit {0}) terms formed near in
+    let two = loops_weigh integer plain in
+    let three = names_weigh integer turns in
     let four = folded_weighs fold width named in
-    let five = nodes_weigh core in
+    let five = nodes_weigh integer (least fold) core in
     omega (arith, one, two, three, four, five)
 
 -- what is told of the weight alone is nothing, or what is told of the core
-pub told_early : (block : Place) (terms : Trees) (ps : Plans) (size : ProgramSize) (weight : ℕ) (told : List Message) → AreFormed (Unit {0}) AreNamed (Unit {0}) (Unit {0}) terms → AreNear terms → IsSizeOf block ps size
-    → WeighsNoMore weight terms → told ≡ copies_told size.place (nodes ps) weight → IsToldEarly block terms ps told
-told_early block terms ps size weight told formed near is no_more e = record {
+pub told_early : (fold : Bool) (block : Place) (terms : Trees) (ps : Plans) (size : ProgramSize) (weight : ℕ) (told : List Message) → AreFormed (Unit {0}) AreNamed (Unit {0}) (Unit {0}) terms → AreNear terms → IsSizeOf block ps size
+    → WeighsNoMore fold weight terms → told ≡ copies_told size.place (nodes ps) weight → IsToldEarly fold block terms ps told
+told_early fold block terms ps size weight told formed near is no_more e = record {
   numbers = λ none. let lt = have_numbers size.place (nodes ps) weight (sym e ∙ none) in omega (arith, lt);
-  core = λ some fold width.
+  core = λ some width.
       let core = nodes_in (folded_where fold width (named_all (without_switches (formed_all terms)))) in
       let le = core_weighs terms formed near fold width in
       let more : weight ≤ core = omega (arith, le, no_more) in
@@ -68,17 +73,17 @@ told_early block terms ps size weight told formed near is no_more e = record {
 }
 
 -- the same of nodes that are lent
-pub early_of : (block : Place) (lent nodes : List Node) (terms : Trees) (told : List Message) → lent ≡ nodes → trees_of nodes ≡ terms → IsToldEarly block (trees_of lent) (plans_of lent) told → IsToldEarly block terms (plans_of nodes) told
-early_of block lent nodes terms told e f h =
-    subst (λ (ts : Trees). IsToldEarly block ts (plans_of nodes) told) f (subst (λ (ns : List Node). IsToldEarly block (trees_of ns) (plans_of ns) told) e h)
+pub early_of : (fold : Bool) (block : Place) (lent nodes : List Node) (terms : Trees) (told : List Message) → lent ≡ nodes → trees_of nodes ≡ terms → IsToldEarly fold block (trees_of lent) (plans_of lent) told → IsToldEarly fold block terms (plans_of nodes) told
+early_of fold block lent nodes terms told e f h =
+    subst (λ (ts : Trees). IsToldEarly fold block ts (plans_of nodes) told) f (subst (λ (ns : List Node). IsToldEarly fold block (trees_of ns) (plans_of ns) told) e h)
 
 pub size_of : (block : Place) (lent nodes : List Node) (size : ProgramSize) → lent ≡ nodes → IsSizeOf block (plans_of lent) size → IsSizeOf block (plans_of nodes) size
 size_of block lent nodes size e h = subst (λ (ns : List Node). IsSizeOf block (plans_of ns) size) e h
 
 -- a block of which too many copies are told early
-pub early_wrong : (style : Style) (fields : HeaderFields) (block : Place) (terms : Trees) (ps : Plans) (told : List Message) (it : Outcome) → IsToldEarly block terms ps told → (told ≡ [] → ⊥) → Faulty told ≡ unless_wrong (copies_of style fields block terms ps) it
+pub early_wrong : (style : Style) (fields : HeaderFields) (block : Place) (terms : Trees) (ps : Plans) (told : List Message) (it : Outcome) → IsToldEarly style.fold block terms ps told → (told ≡ [] → ⊥) → Faulty told ≡ unless_wrong (copies_of style fields block terms ps) it
 early_wrong style fields block terms ps told it h some =
-    let e = h.core some style.fold (width_of fields.revision) in
+    let e = h.core some (width_of fields.revision) in
     refused_is told (copies_of style fields block terms ps) it (e, λ none. some (e ∙ none))
 
 -- a block of the same place, places, file and header comes to the same

@@ -211,13 +211,13 @@ fn core_errors(alloc: Global, size: ProgramSize, core: &[Node]) -> Result<Messag
     copies_told(alloc, size, core_nodes(core))
 }
 
-// What the copies of the steps of Fors weigh, which are looked for where a For may stand.
-fn steps_weight(terms: &[Node], present: Presence) -> u64
+// What the copies of the steps of Fors weigh, where constants are folded or not; they are looked for where a For may stand.
+fn steps_weight(terms: &[Node], present: Presence, fold: bool) -> u64
     requires { AreFormed (Unit {0}) AreNamed (Unit {0}) (Unit {0}) (trees_of terms.now) }
-    ensures { WeighsNoMore result (trees_of terms.now) }
+    ensures { WeighsNoMore fold result (trees_of terms.now) }
 {
     if present.forms {
-        copied_weight(terms)
+        copied_weight(terms, fold)
     } else {
         0
     }
@@ -230,13 +230,14 @@ fn early_errors(
     size: ProgramSize,
     terms: &[Node],
     present: Presence,
+    fold: bool,
 ) -> Result<Messages, AllocError>
     requires formed { AreFormed (Unit {0}) AreNamed (Unit {0}) (Unit {0}) (trees_of terms.now) }
     requires near { AreNear (trees_of terms.now) }
     ensures { (block : Place) → IsSizeOf block (plans_of terms.now) size → IfOk result
-        (IsToldEarly block (trees_of terms.now) (plans_of terms.now)) }
+        (IsToldEarly fold block (trees_of terms.now) (plans_of terms.now)) }
 {
-    copies_told(alloc, size, steps_weight(terms, present))
+    copies_told(alloc, size, steps_weight(terms, present, fold))
 }
 
 // The methods that leave too few Locals for their Switches, which are looked for where Switches stand.
@@ -355,7 +356,7 @@ fn table_of(
         (of_right style lines.now block.place (core_places (plans_of block.terms.items)) block.file (fields_of block) of.1 of.0)) }
 {
     let size = program_size(block.place, &block.terms, present);
-    let early = early_errors(alloc, size, &block.terms, present)?;
+    let early = early_errors(alloc, size, &block.terms, present, style.fold)?;
     if !early.is_empty() {
         return Ok(Outcome::Faulty(early));
     }

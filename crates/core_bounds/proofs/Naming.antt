@@ -6,92 +6,117 @@ use Rattle.acpi_values.specs.declared.operator.Plain.{Plain}
 use Rattle.acpi_values.specs.Operators.{row_of}
 use Rattle.asl_tree.specs.declared.term.Compound.{Compound}
 use Rattle.asl_tree.specs.Symbols.{takes_target}
-use Rattle.asl_tree.specs.Tree.{Tree, Omitted, Call, Apply, Operated, Assigned, AssignedBy, Method, Container', Scope, If, ElseIf, Else, While, Trees, no_trees, tree}
+use Rattle.asl_tree.specs.Tree.{Tree, Omitted, Call, Apply, Operated, Assigned, AssignedBy, Method, Container', Scope, If, ElseIf, Else, While, Switch, Case, Default, Trees, no_trees, tree}
 use Rattle.asl_meaning.specs.Meaning.{target_operator}
 use Rattle.asl_lower.specs.Nodes.{given, last_target, assigned, assigned_by, before, named, inner_args, named_args, named_all}
-use Rattle.core_nodes.specs.Weights.{leaves, leaves_in, weight, weights}
+use Rattle.core_nodes.specs.Weights.{leaves, leaves_in, weight, weights, case_weights, default_weight}
 
--- ---- operators
+module _ (integer : ℕ) where
+  -- ---- operators
 
-given_keeps : (t : Tree) → leaves t ≤ leaves (given t)
-given_keeps Omitted = le_refl 0
-given_keeps t = le_refl (leaves t)
+  given_keeps : (t : Tree) → leaves integer t ≤ leaves integer (given t)
+  given_keeps Omitted = le_refl 0
+  given_keeps t = le_refl (leaves integer t)
 
--- targets that are left out weigh nothing
-omitted_none : (n : ℕ) → leaves_in (last_target n Omitted) ≤ 0
-omitted_none zero = le_refl 0
-omitted_none (suc zero) = omega arith
-omitted_none (suc (suc n)) = let h = omitted_none (suc n) in omega (arith, h)
+  -- targets that are left out weigh nothing
+  omitted_none : (n : ℕ) → leaves_in integer (last_target n Omitted) ≤ 0
+  omitted_none zero = le_refl 0
+  omitted_none (suc zero) = omega arith
+  omitted_none (suc (suc n)) = let h = omitted_none (suc n) in omega (arith, h)
 
-last_keeps : (n : ℕ) (target : Tree) → 0 < n → leaves target ≤ leaves_in (last_target n target)
-last_keeps zero target lt = absurd (omega (arith, lt))
-last_keeps (suc zero) target lt = omega arith
-last_keeps (suc (suc n)) target lt = let h : leaves target ≤ leaves_in (last_target (suc n) target) = last_keeps (suc n) target (omega arith) in omega (arith, h)
+  last_keeps : (n : ℕ) (target : Tree) → 0 < n → leaves integer target ≤ leaves_in integer (last_target n target)
+  last_keeps zero target lt = absurd (omega (arith, lt))
+  last_keeps (suc zero) target lt = omega arith
+  last_keeps (suc (suc n)) target lt = let h : leaves integer target ≤ leaves_in integer (last_target (suc n) target) = last_keeps (suc n) target (omega arith) in omega (arith, h)
 
-some_targets : (n : ℕ) → not (nat_eq n 0) ≡ true → 0 < n
-some_targets zero e = absurd cc
-some_targets (suc n) e = omega arith
+  some_targets : (n : ℕ) → not (nat_eq n 0) ≡ true → 0 < n
+  some_targets zero e = absurd cc
+  some_targets (suc n) e = omega arith
 
-takes_some : (op : Plain) → takes_target op ≡ true → 0 < (row_of op).targets
-takes_some (Plain.Number op) e = some_targets (row_of (Plain.Number op)).targets e
-takes_some op e = absurd cc
+  takes_some : (op : Plain) → takes_target op ≡ true → 0 < (row_of op).targets
+  takes_some (Plain.Number op) e = some_targets (row_of (Plain.Number op)).targets e
+  takes_some op e = absurd cc
 
-stored_keeps : (args : Trees) (target value : Tree) → leaves target + leaves value ≤ leaves (assigned None args target value)
-stored_keeps args target value = let h = given_keeps value in omega (arith, h)
+  stored_keeps : (args : Trees) (target value : Tree) → leaves integer target + leaves integer value ≤ leaves integer (assigned None args target value)
+  stored_keeps args target value = let h = given_keeps value in omega (arith, h)
 
-operated_keeps : (op : Plain) (args : Trees) (target value : Tree) → takes_target op ≡ true → leaves target + leaves_in args ≤ leaves (assigned (Some op) args target value)
-operated_keeps op args target value e = let h = last_keeps (row_of op).targets target (takes_some op e) in omega (arith, h)
+  operated_keeps : (op : Plain) (args : Trees) (target value : Tree) → takes_target op ≡ true → leaves integer target + leaves_in integer args ≤ leaves integer (assigned (Some op) args target value)
+  operated_keeps op args target value e = let h = last_keeps (row_of op).targets target (takes_some op e) in omega (arith, h)
 
-by_keeps : (op : Compound) (target value : Tree) → leaves target + leaves value ≤ leaves (assigned_by op target value)
-by_keeps op target value = let h = given_keeps target in let k = given_keeps value in omega (arith, h, k)
+  by_keeps : (op : Compound) (target value : Tree) → leaves integer target + leaves integer value ≤ leaves integer (assigned_by op target value)
+  by_keeps op target value = let h = given_keeps target in let k = given_keeps value in omega (arith, h, k)
 
-assigned_keeps : (target value : Tree) → leaves target ≤ leaves (named target) → leaves value ≤ leaves (named value)
-    → leaves target + leaves value ≤ leaves (assigned (target_operator value) (inner_args value) (named target) (named value))
-assigned_keeps target (Operated op args) h k = by_takes (takes_target op) refl
-  where
-    by_takes : (c : Bool) → takes_target op ≡ c → leaves target + leaves_in args ≤ leaves (assigned (if c then Some op else None) (named_args args) (named target) (named (Operated op args)))
-    by_takes true e =
-        let l = operated_keeps op (named_args args) (named target) (named (Operated op args)) e in
-        let none = omitted_none (row_of op).targets in
-        omega (arith, h, k, l, none)
-    by_takes false e = let l = stored_keeps (named_args args) (named target) (named (Operated op args)) in omega (arith, h, k, l)
-assigned_keeps target value h k = let l = stored_keeps no_trees (named target) (named value) in omega (arith, h, k, l)
+  assigned_keeps : (target value : Tree) → leaves integer target ≤ leaves integer (named target) → leaves integer value ≤ leaves integer (named value)
+      → leaves integer target + leaves integer value ≤ leaves integer (assigned (target_operator value) (inner_args value) (named target) (named value))
+  assigned_keeps target (Operated op args) h k = by_takes (takes_target op) refl
+    where
+      by_takes : (c : Bool) → takes_target op ≡ c → leaves integer target + leaves_in integer args ≤ leaves integer (assigned (if c then Some op else None) (named_args args) (named target) (named (Operated op args)))
+      by_takes true e =
+          let l = operated_keeps op (named_args args) (named target) (named (Operated op args)) e in
+          let none = omitted_none (row_of op).targets in
+          omega (arith, h, k, l, none)
+      by_takes false e = let l = stored_keeps (named_args args) (named target) (named (Operated op args)) in omega (arith, h, k, l)
+  assigned_keeps target value h k = let l = stored_keeps no_trees (named target) (named value) in omega (arith, h, k, l)
 
--- ---- expressions
+  -- ---- expressions
 
-mutual
-  leaves_keep : (t : Tree) → leaves t ≤ leaves (named t)
-  leaves_keep (Call at name args) = let h = args_keep args in omega (arith, h)
-  leaves_keep (Apply op args targets) = let h = args_keep args in let k = args_keep targets in omega (arith, h, k)
-  leaves_keep (Operated op args) = let h = args_keep args in omega (arith, h)
-  leaves_keep (Assigned target value) = assigned_keeps target value (leaves_keep target) (leaves_keep value)
-  leaves_keep (AssignedBy op target value) = let h = leaves_keep target in let k = leaves_keep value in let l = by_keeps op (named target) (named value) in omega (arith, h, k, l)
-  leaves_keep t = le_refl (leaves t)
+  mutual
+    leaves_keep : (t : Tree) → leaves integer t ≤ leaves integer (named t)
+    leaves_keep (Call at name args) = let h = args_keep args in omega (arith, h)
+    leaves_keep (Apply op args targets) = let h = args_keep args in let k = args_keep targets in omega (arith, h, k)
+    leaves_keep (Operated op args) = let h = args_keep args in omega (arith, h)
+    leaves_keep (Assigned target value) = assigned_keeps target value (leaves_keep target) (leaves_keep value)
+    leaves_keep (AssignedBy op target value) = let h = leaves_keep target in let k = leaves_keep value in let l = by_keeps op (named target) (named value) in omega (arith, h, k, l)
+    leaves_keep t = le_refl (leaves integer t)
 
-  args_keep : (ts : Trees) → leaves_in ts ≤ leaves_in (named_args ts)
-  args_keep no_trees = le_refl 0
-  args_keep (tree t ts) = let h = leaves_keep t in let k = args_keep ts in omega (arith, h, k)
+    args_keep : (ts : Trees) → leaves_in integer ts ≤ leaves_in integer (named_args ts)
+    args_keep no_trees = le_refl 0
+    args_keep (tree t ts) = let h = leaves_keep t in let k = args_keep ts in omega (arith, h, k)
 
--- ---- lists
+  -- ---- lists
 
--- an ElseIf before other terms
-before_keeps : (t : Tree) (ts : Trees) → weight t + weights ts ≤ weights (before t ts)
-before_keeps (ElseIf test body) (tree (Else other) rest) = omega arith
-before_keeps (ElseIf test body) no_trees = omega arith
-before_keeps (ElseIf test body) (tree t rest) = omega arith
-before_keeps t ts = le_refl (weight t + weights ts)
+  -- an ElseIf before other terms
+  before_keeps : (t : Tree) (ts : Trees) → weight integer t + weights integer ts ≤ weights integer (before t ts)
+  before_keeps (ElseIf test body) (tree (Else other) rest) = omega arith
+  before_keeps (ElseIf test body) no_trees = omega arith
+  before_keeps (ElseIf test body) (tree t rest) = omega arith
+  before_keeps t ts = le_refl (weight integer t + weights integer ts)
 
-mutual
-  weight_keeps : (t : Tree) → weight t ≤ weight (named t)
-  weight_keeps (Method at name flags body) = weights_keep body
-  weight_keeps (Container' kind at name body) = weights_keep body
-  weight_keeps (Scope here at name body) = weights_keep body
-  weight_keeps (If test body) = weights_keep body
-  weight_keeps (ElseIf test body) = weights_keep body
-  weight_keeps (Else body) = weights_keep body
-  weight_keeps (While test body) = weights_keep body
-  weight_keeps t = leaves_keep t
+  -- among the Cases of a Switch
+  before_cases : (test : Tree) (body ts : Trees) → case_weights integer ts ≤ case_weights integer (before (ElseIf test body) ts)
+  before_cases test body (tree (Else other) rest) = le_refl (case_weights integer rest)
+  before_cases test body no_trees = le_refl 0
+  before_cases test body (tree t rest) = le_refl (case_weights integer (tree t rest))
 
-  pub weights_keep : (ts : Trees) → weights ts ≤ weights (named_all ts)
-  weights_keep no_trees = le_refl 0
-  weights_keep (tree t ts) = let h = weight_keeps t in let k = weights_keep ts in let l = before_keeps (named t) (named_all ts) in omega (arith, h, k, l)
+  before_default : (test : Tree) (body ts : Trees) → default_weight integer ts ≤ default_weight integer (before (ElseIf test body) ts)
+  before_default test body (tree (Else other) rest) = le_refl (default_weight integer rest)
+  before_default test body no_trees = le_refl 0
+  before_default test body (tree t rest) = le_refl (default_weight integer (tree t rest))
+
+  mutual
+    weight_keeps : (t : Tree) → weight integer t ≤ weight integer (named t)
+    weight_keeps (Method at name flags body) = weights_keep body
+    weight_keeps (Container' kind at name body) = weights_keep body
+    weight_keeps (Scope here at name body) = weights_keep body
+    weight_keeps (If test body) = weights_keep body
+    weight_keeps (ElseIf test body) = weights_keep body
+    weight_keeps (Else body) = weights_keep body
+    weight_keeps (While test body) = weights_keep body
+    weight_keeps (Switch value cases) = let h = cases_keep cases in let k = default_keeps cases in omega (arith, h, k)
+    weight_keeps t = leaves_keep t
+
+    pub weights_keep : (ts : Trees) → weights integer ts ≤ weights integer (named_all ts)
+    weights_keep no_trees = le_refl 0
+    weights_keep (tree t ts) = let h = weight_keeps t in let k = weights_keep ts in let l = before_keeps (named t) (named_all ts) in omega (arith, h, k, l)
+
+    cases_keep : (ts : Trees) → case_weights integer ts ≤ case_weights integer (named_all ts)
+    cases_keep no_trees = le_refl 0
+    cases_keep (tree (Case value body) ts) = let h = weights_keep body in let k = cases_keep ts in omega (arith, h, k)
+    cases_keep (tree (ElseIf test body) ts) = let h = cases_keep ts in let k = before_cases (named test) (named_all body) (named_all ts) in omega (arith, h, k)
+    cases_keep (tree t ts) = cases_keep ts
+
+    default_keeps : (ts : Trees) → default_weight integer ts ≤ default_weight integer (named_all ts)
+    default_keeps no_trees = le_refl 0
+    default_keeps (tree (Default body) ts) = weights_keep body
+    default_keeps (tree (ElseIf test body) ts) = let h = default_keeps ts in let k = before_default (named test) (named_all body) (named_all ts) in omega (arith, h, k)
+    default_keeps (tree t ts) = default_keeps ts

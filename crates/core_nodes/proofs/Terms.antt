@@ -9,15 +9,18 @@ use Rattle.asl_tree.specs.declared.term.Node.{Node}
 use Rattle.asl_tree.specs.declared.term.Term.{Term}
 use Rattle.asl_tree.specs.declared.term.Term as D
 use Rattle.asl_tree.specs.declared.term.Term.TheVariants as V
-use Rattle.asl_tree.specs.Tree.{At, Tree, Integer, String, Fill, Call, Trees, no_trees, tree, count}
+use Rattle.acpi_state.specs.Forms.{Slot}
+use Rattle.acpi_state.specs.Outcomes.{choose}
+use Rattle.asl_tree.specs.FieldItems.{FieldItem}
+use Rattle.asl_tree.specs.Tree.{At, Tree, Integer, String, InSlot, Debug, Omitted, Use, Fill, Item, Case, Call, Trees, no_trees, tree, count, UnitName}
 use Rattle.asl_tree.specs.View.{form, tree_of, trees_of, listed, body_bytes}
 use Rattle.acpi_names.specs.Walked.{node_tree}
 use Rattle.acpi_names.proofs.Plain.{is_plain, plain_form}
 use Rattle.acpi_names.proofs.Trees.{form_tree, call_tree}
 use Rattle.core_nodes.specs.Nodes.{nodes_of, nodes_in}
-use Rattle.core_nodes.specs.Weights.{leaves, leaves_in, copied}
+use Rattle.core_nodes.specs.Weights.{leaves, leaves_in, copied, copied_cases, copied_default}
 use Rattle.core_nodes.specs.Whole.{IsWhole, AreWhole}
-use Rattle.core_nodes.specs.Forms.{own_nodes, braces_nodes, AreWholeBraces, form_leaves, step_leaves, form_copied}
+use Rattle.core_nodes.specs.Forms.{own_nodes, braces_nodes, AreWholeBraces, form_leaves, step_leaves, form_copied, case_copied, default_copied}
 use Rattle.core_nodes.proofs.Forms.{Fitting, form_fits}
 
 abbrev place_of : Node → At
@@ -119,34 +122,63 @@ leaf_nodes node not_call not_form =
     by_term (λ u. nodes_of (tree_of (place_of node) u) ≡ 1) node.term (λ n e. refl) (λ s e. refl) (λ s named e. refl) (λ w e. refl) (λ n e. refl) (λ n e. refl) (λ e. refl) (λ e. refl) (λ p e. refl)
     (λ s n e. refl) (λ n e. refl) (λ n e. refl) (λ a b c e. refl) (λ p v e. absurd (not_call p v e)) (λ o v w e. absurd (not_form o v w e))
 
-pub local_leaves : (node : Node) (n : ℕ) → node.term ≡ D.Local n → leaves (node_tree node) ≡ 1
+pub integer_leaves : (integer : ℕ) (node : Node) (n : ℕ) → node.term ≡ D.Integer n → leaves integer (node_tree node) ≡ integer
 unfolding tree_of
-local_leaves node n e = ap (λ u. leaves (tree_of (place_of node) u)) e
+integer_leaves integer node n e = ap (λ u. leaves integer (tree_of (place_of node) u)) e
 
-pub arg_leaves : (node : Node) (n : ℕ) → node.term ≡ D.Arg n → leaves (node_tree node) ≡ 1
+pub word_leaves : (integer : ℕ) (node : Node) (w : Word) → node.term ≡ D.Word w → leaves integer (node_tree node) ≡ integer
 unfolding tree_of
-arg_leaves node n e = ap (λ u. leaves (tree_of (place_of node) u)) e
+word_leaves integer node w e = ap (λ u. leaves integer (tree_of (place_of node) u)) e
 
-pub debug_leaves : (node : Node) → node.term ≡ D.Debug → leaves (node_tree node) ≡ 1
+pub local_leaves : (integer : ℕ) (node : Node) (n : ℕ) → node.term ≡ D.Local n → leaves integer (node_tree node) ≡ 1
 unfolding tree_of
-debug_leaves node e = ap (λ u. leaves (tree_of (place_of node) u)) e
+local_leaves integer node n e = ap (λ u. leaves integer (tree_of (place_of node) u)) e
 
-pub name_leaves : (node : Node) (p : Path) → node.term ≡ D.Name p → leaves (node_tree node) ≡ 1
+pub arg_leaves : (integer : ℕ) (node : Node) (n : ℕ) → node.term ≡ D.Arg n → leaves integer (node_tree node) ≡ 1
 unfolding tree_of
-name_leaves node p e = ap (λ u. leaves (tree_of (place_of node) u)) e
+arg_leaves integer node n e = ap (λ u. leaves integer (tree_of (place_of node) u)) e
 
-pub no_leaves : (node : Node) → ((n : ℕ) → node.term ≡ D.Local n → ⊥) → ((n : ℕ) → node.term ≡ D.Arg n → ⊥) → (node.term ≡ D.Debug → ⊥) → ((p : Path) → node.term ≡ D.Name p → ⊥) → NoCall node.term → NoForm node.term
-    → leaves (node_tree node) ≡ 0
+pub debug_leaves : (integer : ℕ) (node : Node) → node.term ≡ D.Debug → leaves integer (node_tree node) ≡ 1
 unfolding tree_of
-no_leaves node not_local not_arg not_debug not_name not_call not_form =
-    by_term (λ u. leaves (tree_of (place_of node) u) ≡ 0) node.term (λ n e. refl) (λ s e. refl) (λ s named e. refl) (λ w e. refl) (λ n e. absurd (not_local n e)) (λ n e. absurd (not_arg n e)) (λ e. absurd (not_debug e)) (λ e. refl) (λ p e. absurd (not_name p e))
-    (λ s n e. refl) (λ n e. refl) (λ n e. refl) (λ a b c e. refl) (λ p v e. absurd (not_call p v e)) (λ o v w e. absurd (not_form o v w e))
+debug_leaves integer node e = ap (λ u. leaves integer (tree_of (place_of node) u)) e
 
-pub no_copies : (step : ℕ) (node : Node) → NoForm node.term → copied step (node_tree node) ≡ 0
+pub name_leaves : (integer : ℕ) (node : Node) (p : Path) → node.term ≡ D.Name p → leaves integer (node_tree node) ≡ 1
 unfolding tree_of
-no_copies step node not_form =
-    by_term (λ u. copied step (tree_of (place_of node) u) ≡ 0) node.term (λ n e. refl) (λ s e. refl) (λ s named e. refl) (λ w e. refl) (λ n e. refl) (λ n e. refl) (λ e. refl) (λ e. refl) (λ p e. refl)
-    (λ s n e. refl) (λ n e. refl) (λ n e. refl) (λ a b c e. refl) (λ p v e. ap (copied step) (call_tree (place_of node) p v)) (λ o v w e. absurd (not_form o v w e))
+name_leaves integer node p e = ap (λ u. leaves integer (tree_of (place_of node) u)) e
+
+pub no_leaves : (integer : ℕ) (node : Node) → ((n : ℕ) → node.term ≡ D.Integer n → ⊥) → ((w : Word) → node.term ≡ D.Word w → ⊥) → ((n : ℕ) → node.term ≡ D.Local n → ⊥) → ((n : ℕ) → node.term ≡ D.Arg n → ⊥) → (node.term ≡ D.Debug → ⊥)
+    → ((p : Path) → node.term ≡ D.Name p → ⊥) → NoCall node.term → NoForm node.term → leaves integer (node_tree node) ≡ 0
+unfolding tree_of
+no_leaves integer node not_integer not_word not_local not_arg not_debug not_name not_call not_form =
+    by_term (λ u. leaves integer (tree_of (place_of node) u) ≡ 0) node.term (λ n e. absurd (not_integer n e)) (λ s e. refl) (λ s named e. refl) (λ w e. absurd (not_word w e)) (λ n e. absurd (not_local n e)) (λ n e. absurd (not_arg n e)) (λ e. absurd (not_debug e)) (λ e. refl)
+    (λ p e. absurd (not_name p e)) (λ s n e. refl) (λ n e. refl) (λ n e. refl) (λ a b c e. refl) (λ p v e. absurd (not_call p v e)) (λ o v w e. absurd (not_form o v w e))
+
+-- nothing is found in such a term of which nothing is found in a leaf and in a call
+unfound : (f : Tree → ℕ) (n : ℕ) (node : Node) → NoForm node.term
+    → ((m : ℕ) → f (Integer m) ≡ n) → ((s : List ℕ) → f (String s) ≡ n) → ((s : List ℕ) → f (Fill s) ≡ n) → ((slot : Slot) → f (InSlot slot) ≡ n) → f Debug ≡ n → f Omitted ≡ n
+    → ((at : At) (p : Path) → f (Use at p) ≡ n) → ((item : FieldItem UnitName) → f (Item item) ≡ n) → ((at : At) (p : Path) (args : Trees) → f (Call at p args) ≡ n) → f (node_tree node) ≡ n
+unfolding tree_of
+unfound f n node not_form integer text fill slot debug omitted name item call =
+    let at = place_of node in
+    by_term (λ u. f (tree_of at u) ≡ n) node.term (λ m e. integer m) (λ s e. text s) (λ s named e. fill s) (λ w e. integer _) (λ m e. slot _) (λ m e. slot _) (λ e. debug) (λ e. omitted) (λ p e. name at p)
+    (λ s m e. item _) (λ m e. item _) (λ m e. item _) (λ a b c e. item _) (λ p v e. ap f (call_tree at p v) ∙ call at p (trees_of v.items)) (λ o v w e. absurd (not_form o v w e))
+
+pub no_copies : (integer step : ℕ) (node : Node) → NoForm node.term → copied integer step (node_tree node) ≡ 0
+no_copies integer step node not_form =
+    unfound (copied integer step) 0 node not_form (λ m. refl) (λ s. refl) (λ s. refl) (λ slot. refl) refl refl (λ at p. refl) (λ item. refl) (λ at p args. refl)
+
+pub no_cases : (integer step : ℕ) (node : Node) → NoForm node.term → copied_cases integer step (tree (node_tree node) no_trees) ≡ 0
+no_cases integer step node not_form =
+    unfound (λ t. copied_cases integer step (tree t no_trees)) 0 node not_form (λ m. refl) (λ s. refl) (λ s. refl) (λ slot. refl) refl refl (λ at p. refl) (λ item. refl) (λ at p args. refl)
+
+pub no_default : (integer step : ℕ) (node : Node) (ts : Trees) → NoForm node.term → copied_default integer step (tree (node_tree node) ts) ≡ copied_default integer step ts
+no_default integer step node ts not_form =
+    unfound (λ t. copied_default integer step (tree t ts)) (copied_default integer step ts) node not_form (λ m. refl) (λ s. refl) (λ s. refl) (λ slot. refl) refl refl (λ at p. refl) (λ item. refl) (λ at p args. refl)
+
+-- Cases one after another
+pub cases_add : (integer step : ℕ) (t : Tree) (ts : Trees) → copied_cases integer step (tree t ts) ≡ copied_cases integer step (tree t no_trees) + copied_cases integer step ts
+cases_add integer step (Case value body) ts = omega arith
+cases_add integer step t ts = omega arith
 
 -- ---- calls and forms
 
@@ -170,10 +202,10 @@ module _ (limit : ℕ) where
       let c = counted (subst IsWhole is w) in
       omega (arith, whole, c, s)
 
-  pub call_weighed : (node : Node) (args : Trees) (a sum : ℕ) (path : Path) → node_tree node ≡ Call (place_of node) path args → (AreWhole args → a ≡ min (leaves_in args) limit) → sum ≡ min (a + 1) limit
-      → IsWhole (node_tree node) → sum ≡ min (leaves (node_tree node)) limit
-  call_weighed node args a sum path is counted s w =
-      let whole = ap leaves is in
+  pub call_weighed : (integer : ℕ) (node : Node) (args : Trees) (a sum : ℕ) (path : Path) → node_tree node ≡ Call (place_of node) path args → (AreWhole args → a ≡ min (leaves_in integer args) limit) → sum ≡ min (a + 1) limit
+      → IsWhole (node_tree node) → sum ≡ min (leaves integer (node_tree node)) limit
+  call_weighed integer node args a sum path is counted s w =
+      let whole = ap (leaves integer) is in
       let c = counted (subst IsWhole is w) in
       omega (arith, whole, c, s)
 
@@ -185,25 +217,33 @@ module _ (limit : ℕ) where
       let d = cb fit.braces in
       omega (arith, whole, c, d, f, o, s)
 
-  pub form_weighed : (t : Tree) (op : Op) (args body : Trees) (a : ℕ) → (AreWhole args → a ≡ min (form_leaves op args) limit) → Fitting op args body t → a ≡ min (leaves t) limit
-  form_weighed t op args body a counted fit = counted fit.arguments ∙ ap (λ n. min n limit) (sym fit.weight)
+  pub form_weighed : (integer : ℕ) (t : Tree) (op : Op) (args body : Trees) (a : ℕ) → (AreWhole args → a ≡ min (form_leaves integer op args) limit) → Fitting op args body t → a ≡ min (leaves integer t) limit
+  form_weighed integer t op args body a counted fit = counted fit.arguments ∙ ap (λ n. min n limit) (sym (fit.weight integer))
 
-  pub copies_weighed : (step : ℕ) (t : Tree) (op : Op) (args body : Trees) (a : ℕ) → (AreWhole args → AreWholeBraces op body → a ≡ min (form_copied step op args body) limit) → Fitting op args body t → a ≡ min (copied step t) limit
-  copies_weighed step t op args body a counted fit = counted fit.arguments fit.braces ∙ ap (λ n. min n limit) (sym (fit.copies step))
+  pub copies_weighed : (integer step : ℕ) (t : Tree) (op : Op) (args body : Trees) (a : ℕ) → (AreWhole args → AreWholeBraces op body → a ≡ min (form_copied integer step op args body) limit) → Fitting op args body t → a ≡ min (copied integer step t) limit
+  copies_weighed integer step t op args body a counted fit = counted fit.arguments fit.braces ∙ ap (λ n. min n limit) (sym (fit.copies integer step))
 
--- the step of a For
-pub step_there : (ns : List Node) (node : Node) → length ns ≡ 3 → node ≡ get_or ns 2 node → step_leaves (trees_of ns) ≡ leaves (node_tree node)
-unfolding trees_of
-step_there [] node three e = absurd (omega (arith, three))
-step_there (a ∷ []) node three e = absurd (omega (arith, three))
-step_there (a ∷ b ∷ []) node three e = absurd (omega (arith, three))
-step_there (a ∷ b ∷ c ∷ []) node three e = ap (λ (n : Node). leaves (node_tree n)) (sym e)
-step_there (a ∷ b ∷ c ∷ d ∷ ns) node three e = absurd (omega (arith, three))
+  pub case_weighed : (integer step : ℕ) (t : Tree) (op : Op) (args body : Trees) (a : ℕ) → (AreWholeBraces op body → a ≡ min (case_copied integer step op body) limit) → Fitting op args body t → a ≡ min (copied_cases integer step (tree t no_trees)) limit
+  case_weighed integer step t op args body a counted fit = counted fit.braces ∙ ap (λ n. min n limit) (sym (fit.cases integer step))
 
-pub no_step : (ns : List Node) → (length ns ≡ 3 → ⊥) → step_leaves (trees_of ns) ≡ 0
-unfolding trees_of
-no_step [] others = refl
-no_step (a ∷ []) others = refl
-no_step (a ∷ b ∷ []) others = refl
-no_step (a ∷ b ∷ c ∷ []) others = absurd (others refl)
-no_step (a ∷ b ∷ c ∷ d ∷ ns) others = refl
+  pub default_weighed : (integer step : ℕ) (t : Tree) (op : Op) (args body : Trees) (found : Option ℕ) → (AreWholeBraces op body → (behind : ℕ) → choose found (min behind limit) (λ n. n) ≡ min (default_copied integer step op body behind) limit)
+      → Fitting op args body t → (ts : Trees) → choose found (min (copied_default integer step ts) limit) (λ n. n) ≡ min (copied_default integer step (tree t ts)) limit
+  default_weighed integer step t op args body found given fit ts = given fit.braces (copied_default integer step ts) ∙ ap (λ n. min n limit) (sym (fit.default integer step ts))
+
+module _ (integer : ℕ) where
+  -- the step of a For
+  pub step_there : (ns : List Node) (node : Node) → length ns ≡ 3 → node ≡ get_or ns 2 node → step_leaves integer (trees_of ns) ≡ leaves integer (node_tree node)
+  unfolding trees_of
+  step_there [] node three e = absurd (omega (arith, three))
+  step_there (a ∷ []) node three e = absurd (omega (arith, three))
+  step_there (a ∷ b ∷ []) node three e = absurd (omega (arith, three))
+  step_there (a ∷ b ∷ c ∷ []) node three e = ap (λ (n : Node). leaves integer (node_tree n)) (sym e)
+  step_there (a ∷ b ∷ c ∷ d ∷ ns) node three e = absurd (omega (arith, three))
+
+  pub no_step : (ns : List Node) → (length ns ≡ 3 → ⊥) → step_leaves integer (trees_of ns) ≡ 0
+  unfolding trees_of
+  no_step [] others = refl
+  no_step (a ∷ []) others = refl
+  no_step (a ∷ b ∷ []) others = refl
+  no_step (a ∷ b ∷ c ∷ []) others = absurd (others refl)
+  no_step (a ∷ b ∷ c ∷ d ∷ ns) others = refl

@@ -63,3 +63,26 @@ module _ (limit : ℕ) (f : Trees → ℕ) (g : Tree → ℕ) where
       let left = before.left in
       let within = before.within in
       omega (arith, past, left, within)
+
+-- ---- the first one among nodes of which something is found
+
+module _ (limit : ℕ) (f : Trees → ℕ) (ns : List Node) where
+  -- what those from a node on have is what all have
+  abbrev Found : ℕ → Type 0
+  Found at = min (f (trees_of (drop at ns))) limit ≡ min (f (trees_of ns)) limit
+
+  pub none_found : Found 0
+  none_found = ap (λ (ts : Trees). min (f ts) limit) (all_left ns)
+
+  pub not_found : (i : ℕ) (node : Node) → i < length ns → node ≡ get_or ns i node → Found i → ((ts : Trees) → min (f ts) limit ≡ min (f (tree (node_tree node) ts)) limit) → Found (i + 1)
+  not_found i node lt e before is =
+      let more : i + 1 ≡ suc i = omega arith in
+      ap (λ k. min (f (trees_of (drop k ns))) limit) more ∙ is (trees_of (drop (suc i) ns)) ∙ sym (ap (λ (ts : Trees). min (f ts) limit) (node_at ns i node lt e)) ∙ before
+
+  pub first_found : (i weight : ℕ) (node : Node) → i < length ns → node ≡ get_or ns i node → Found i → ((ts : Trees) → weight ≡ min (f (tree (node_tree node) ts)) limit) → weight ≡ min (f (trees_of ns)) limit
+  first_found i weight node lt e before is = is (trees_of (drop (suc i) ns)) ∙ sym (ap (λ (ts : Trees). min (f ts) limit) (node_at ns i node lt e)) ∙ before
+
+  pub never_found : f no_trees ≡ 0 → (i : ℕ) → length ns ≤ i → Found i → 0 ≡ min (f (trees_of ns)) limit
+  never_found none i le before =
+      let past : f (trees_of (drop i ns)) ≡ 0 = ap f (no_more ns i le) ∙ none in
+      omega (arith, past, before)

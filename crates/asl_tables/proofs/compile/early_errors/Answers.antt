@@ -11,5 +11,5 @@ returns c = λ block is.
     let terms = trees_of c.args.terms.now in
     let plans = plans_of c.args.terms.now in
     let weight = c.steps_weight.result in
-    IfOk-weaker c.copies_told.result _ _ (λ told e. told_early block terms plans c.args.size weight told c.requires.formed c.requires.near is c.steps_weight.ensures e)
+    IfOk-weaker c.copies_told.result _ _ (λ told e. told_early c.args.fold block terms plans c.args.size weight told c.requires.formed c.requires.near is c.steps_weight.ensures e)
     (c.copies_told.ensures (nodes plans) weight is.nodes (omega (arith, c.steps_weight.type_inv)))

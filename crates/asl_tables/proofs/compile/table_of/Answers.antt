@@ -23,7 +23,7 @@ returns-then-not-is_empty g c =
     let block = c.args.block in
     let told = c.in_ok-early.early in
     let size : IsSizeOf block.place (plans_of c.deref-2.result.now) c.program_size-size.result = size_of block.place c.deref.result.now c.deref-2.result.now c.program_size-size.result (c.deref.ensures.value ∙ sym c.deref-2.ensures.value) c.program_size-size.ensures in
-    let early = early_of block.place c.deref-2.result.now block.terms.items g.of.0 told c.deref-2.ensures.value c.requires.0 (c.in_ok-early.ensures block.place size) in
+    let early = early_of c.args.style.fold block.place c.deref-2.result.now block.terms.items g.of.0 told c.deref-2.ensures.value c.requires.0 (c.in_ok-early.ensures block.place size) in
     early_wrong c.args.style (fields_of block) block.place g.of.0 (plans_of block.terms.items) told _ early
     (λ e. let none : length told ≡ 0 = ap length e in let never : ⊥ = grind (arith, none, c.is_empty.ensures, c.if-not-is_empty.true) in never)
 
