@@ -2,7 +2,7 @@
 ghost use Rattle.std.specs.Prelude.{◌≡◌, ◌∷◌, [], ◌++◌, ◌||◌, not, true, false, IfOk};
 ghost use Rattle.asl_tree.specs.Tree.{While, no_trees, tree};
 ghost use Rattle.asl_tree.specs.View.{trees_of};
-ghost use Rattle.asl_shape.specs.Plans.{a_form, join, no_plans, plan, plan_of, plans_of};
+ghost use Rattle.asl_terms.specs.Plans.{a_form, join, no_plans, plan, plan_of, plans_of};
 ghost use Rattle.asl_formats.specs.Bare.{bare_all, shown};
 ghost use Rattle.asl_prints.specs.Forms.{followed, optional as optional_trees, spread, stepped_all};
 ghost use Rattle.asl_formats.specs.Steps.{for_parts, IsLoop};

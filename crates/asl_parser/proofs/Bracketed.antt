@@ -2,30 +2,31 @@
 use Rattle.std.proofs.Common.{◌≡◌, ℕ, suc, ◌+◌, ◌<◌, ◌≤◌, length, drop, get_or, Bool, true, false, List, [], ◌∷◌, Option, Some, None, refl, sym, ap, ◌∙◌, subst, arith}
 use Rattle.std.proofs.lemmas.Bool.{le-leb}
 use Rattle.asl_lexer.specs.declared.token.Token.{Token}
-use Rattle.asl_parser.specs.declared.mark.Spot.{Spot}
-use Rattle.asl_parser.specs.declared.mark.Lexeme.{Lexeme}
-use Rattle.asl_parser.specs.declared.mark.Lexeme.TheVariants as l
-use Rattle.asl_parser.specs.declared.mark.Mark.{Mark}
-use Rattle.asl_parser.specs.declared.raw.Infix.{Infix}
-use Rattle.asl_parser.specs.declared.raw.Raw.{Raw}
-use Rattle.asl_parser.specs.declared.sign.Sign.TheVariants as s
-use Rattle.asl_parser.specs.declared.sign.Strength.{Strength}
-use Rattle.asl_parser.specs.declared.subtree.Subtree.{Subtree}
-use Rattle.asl_parser.specs.declared.subtree.Subtrees.{Subtrees}
-use Rattle.asl_parser.specs.declared.frame.Frame.{Frame}
-use Rattle.asl_parser.specs.declared.frame.Frame.TheVariants as f
-use Rattle.asl_parser.specs.declared.frame.ParserState.{ParserState}
-use Rattle.asl_parser.specs.declared.frame.ParserState.TheVariants as st
+use Rattle.asl_syntax.specs.declared.mark.Spot.{Spot}
+use Rattle.asl_syntax.specs.declared.mark.Lexeme.{Lexeme}
+use Rattle.asl_syntax.specs.declared.mark.Lexeme.TheVariants as l
+use Rattle.asl_syntax.specs.declared.mark.Mark.{Mark}
+use Rattle.asl_syntax.specs.declared.raw.Infix.{Infix}
+use Rattle.asl_syntax.specs.declared.raw.Raw.{Raw}
+use Rattle.asl_syntax.specs.declared.sign.Sign.TheVariants as s
+use Rattle.asl_syntax.specs.declared.sign.Strength.{Strength}
+use Rattle.asl_syntax.specs.declared.subtree.Subtree.{Subtree}
+use Rattle.asl_syntax.specs.declared.subtree.Subtrees.{Subtrees}
+use Rattle.asl_syntax.specs.declared.frame.Frame.{Frame}
+use Rattle.asl_syntax.specs.declared.frame.Frame.TheVariants as f
+use Rattle.asl_parser.specs.declared.state.ParserState.{ParserState}
+use Rattle.asl_parser.specs.declared.state.ParserState.TheVariants as st
 use Rattle.asl_parser.specs.declared.stage.Stage.{Stage}
 use Rattle.asl_parser.specs.declared.stage.Stage.TheVariants as g
-use Rattle.asl_parser.specs.Grow.{limit, no_subtrees, join, joined}
-use Rattle.asl_parser.specs.Machine.{depth, walk, within, step, step_by, begin, argument, first_argument, sequence, after, settle, room}
-use Rattle.asl_parser.specs.Marks.{mark, marks, lexeme}
-use Rattle.asl_parser.specs.Opens.{IsOne, tree_of, first_raw, single}
+use Rattle.asl_syntax.specs.Grow.{limit, no_subtrees, join, joined}
+use Rattle.asl_syntax.specs.Frames.{depth, room}
+use Rattle.asl_parser.specs.Machine.{walk, within, step, step_by, begin, argument, first_argument, sequence, after, settle}
+use Rattle.asl_syntax.specs.Marks.{mark, marks, lexeme}
+use Rattle.asl_syntax.specs.Opens.{IsOne, tree_of, first_raw, single}
 use Rattle.asl_parser.specs.Operating.{applies, pulls, AppliesNode, MayBegin, MayBracket}
 use Rattle.asl_parser.specs.Pairs.{plain_by, plain, HoldsNode}
 use Rattle.asl_parser.specs.Reading.{Advances}
-use Rattle.asl_parser.specs.Signs.{strength}
+use Rattle.asl_syntax.specs.Signs.{strength}
 use Rattle.asl_parser.specs.Stages.{state_of, begins}
 use Rattle.asl_parser.proofs.Complete.{is_strength}
 use Rattle.asl_parser.proofs.Operating.{operand_next, operated, place_next, walk_same}

@@ -1,16 +1,16 @@
 -- A call whose arguments are held before a frame is opened.
 use Rattle.std.proofs.Common.{◌≡◌, ℕ, suc, ◌+◌, ◌<◌, ◌≤◌, length, drop, get_or, true, List, [], ◌∷◌, Option, Some, None, Result, Ok, Err, refl, sym, ap, ◌∙◌, subst, arith}
 use Rattle.asl_lexer.specs.declared.token.Token.{Token}
-use Rattle.asl_parser.specs.declared.mark.Spot.{Spot}
-use Rattle.asl_parser.specs.declared.mark.Lexeme.{Lexeme}
-use Rattle.asl_parser.specs.declared.mark.Lexeme.TheVariants as l
-use Rattle.asl_parser.specs.declared.mark.Mark.{Mark}
-use Rattle.asl_parser.specs.declared.sign.Sign.TheVariants as s
-use Rattle.asl_parser.specs.declared.subtree.Subtree.{Subtree}
-use Rattle.asl_parser.specs.declared.subtree.Subtrees.{Subtrees}
-use Rattle.asl_parser.specs.declared.frame.Frame.{Frame}
-use Rattle.asl_parser.specs.declared.frame.Frame.TheVariants as f
-use Rattle.asl_parser.specs.declared.frame.ParserState.TheVariants as st
+use Rattle.asl_syntax.specs.declared.mark.Spot.{Spot}
+use Rattle.asl_syntax.specs.declared.mark.Lexeme.{Lexeme}
+use Rattle.asl_syntax.specs.declared.mark.Lexeme.TheVariants as l
+use Rattle.asl_syntax.specs.declared.mark.Mark.{Mark}
+use Rattle.asl_syntax.specs.declared.sign.Sign.TheVariants as s
+use Rattle.asl_syntax.specs.declared.subtree.Subtree.{Subtree}
+use Rattle.asl_syntax.specs.declared.subtree.Subtrees.{Subtrees}
+use Rattle.asl_syntax.specs.declared.frame.Frame.{Frame}
+use Rattle.asl_syntax.specs.declared.frame.Frame.TheVariants as f
+use Rattle.asl_parser.specs.declared.state.ParserState.TheVariants as st
 use Rattle.asl_parser.specs.declared.reader.Syntax.{Syntax}
 use Rattle.asl_parser.specs.declared.calls.Arguments.{Arguments}
 use Rattle.asl_parser.specs.declared.calls.Arguments.TheVariants as a
@@ -18,9 +18,10 @@ use Rattle.asl_parser.specs.declared.stage.Stage.{Stage}
 use Rattle.std.specs.Prelude.{IfOk, IfErr}
 use Rattle.asl_parser.specs.Calls.{calling, may_go_on, stage_of, SignIs, HoldsArgument, Reads}
 use Rattle.asl_parser.specs.Stages.{state_of, Holds}
-use Rattle.asl_parser.specs.Grow.{joined, no_subtrees, limit}
-use Rattle.asl_parser.specs.Machine.{Config, depth, walk, within, step_by, word}
-use Rattle.asl_parser.specs.Marks.{mark, marks, lexeme}
+use Rattle.asl_syntax.specs.Grow.{joined, no_subtrees, limit}
+use Rattle.asl_syntax.specs.Frames.{depth}
+use Rattle.asl_parser.specs.Machine.{Config, walk, within, step_by, word}
+use Rattle.asl_syntax.specs.Marks.{mark, marks, lexeme}
 use Rattle.asl_parser.specs.Pairs.{plain, HoldsNode, PassesMarks}
 use Rattle.asl_parser.specs.Parse.{EndsIn}
 use Rattle.asl_parser.specs.Reading.{Advances, FailsAt, Comes, Passes}

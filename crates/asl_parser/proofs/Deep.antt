@@ -1,19 +1,20 @@
 -- The first token at which too much is open.
 use Rattle.std.proofs.Common.{◌≡◌, ℕ, suc, ◌-◌, ◌≤◌, ◌<◌, Bool, true, false, cond, List, [], ◌∷◌, ◌++◌, Option, Some, None, refl, sym, ap, subst, ◌∙◌, inl, inr, arith}
 use Rattle.std.proofs.lemmas.Bool.{le-leb, leb-true, lt-leb}
-use Rattle.asl_parser.specs.declared.sign.Sign.TheVariants as s
-use Rattle.asl_parser.specs.declared.mark.Spot.{Spot}
-use Rattle.asl_parser.specs.declared.mark.Mark.{Mark}
-use Rattle.asl_parser.specs.declared.raw.Infix.{Infix}
-use Rattle.asl_parser.specs.declared.subtree.Subtree.{Subtree}
-use Rattle.asl_parser.specs.declared.subtree.Subtrees.{Subtrees}
-use Rattle.asl_parser.specs.declared.frame.Frame.{Frame}
-use Rattle.asl_parser.specs.declared.frame.Frame.TheVariants as f
-use Rattle.asl_parser.specs.declared.frame.ParserState.{ParserState}
-use Rattle.asl_parser.specs.declared.frame.ParserState.TheVariants as st
-use Rattle.asl_parser.specs.Trees.{Tree, Trees, none, more}
-use Rattle.asl_parser.specs.Grow.{no_subtrees, joined, grown, grown_all, grown_in}
-use Rattle.asl_parser.specs.Machine.{Config, Answer, source, stop, deep, depth, walk, unlimited, within, start, room, allow, settle, begin, begin_by, begin_sign, operator, sequence, sequence_by, sequence_sign, listed, listed_by, enclosed, enclosed_by}
+use Rattle.asl_syntax.specs.declared.sign.Sign.TheVariants as s
+use Rattle.asl_syntax.specs.declared.mark.Spot.{Spot}
+use Rattle.asl_syntax.specs.declared.mark.Mark.{Mark}
+use Rattle.asl_syntax.specs.declared.raw.Infix.{Infix}
+use Rattle.asl_syntax.specs.declared.subtree.Subtree.{Subtree}
+use Rattle.asl_syntax.specs.declared.subtree.Subtrees.{Subtrees}
+use Rattle.asl_syntax.specs.declared.frame.Frame.{Frame}
+use Rattle.asl_syntax.specs.declared.frame.Frame.TheVariants as f
+use Rattle.asl_parser.specs.declared.state.ParserState.{ParserState}
+use Rattle.asl_parser.specs.declared.state.ParserState.TheVariants as st
+use Rattle.asl_syntax.specs.Trees.{Tree, Trees, none, more}
+use Rattle.asl_syntax.specs.Grow.{no_subtrees, joined, grown, grown_all, grown_in}
+use Rattle.asl_syntax.specs.Frames.{depth, start, room}
+use Rattle.asl_parser.specs.Machine.{Config, Answer, source, stop, deep, walk, unlimited, within, allow, settle, begin, begin_by, begin_sign, operator, sequence, sequence_by, sequence_sign, listed, listed_by, enclosed, enclosed_by}
 use Rattle.asl_parser.specs.Machine.{after, after_by, after_lexeme, word_by, called_by, argument, argument_by, first_argument, first_argument_by, element, element_by, first_element, first_element_by, step, run, finish, finish_whole, close_source}
 use Rattle.asl_parser.specs.Machine as m
 use Rattle.asl_parser.specs.Grammar.{at, sign, word, Phrase, expression, arguments, body, given, before, brace_list, members, member, sequence as row_of, all, is_paren, opens_paren, MayFollow, Reads, IsSource}

@@ -1,4 +1,3 @@
-pub mod Symbols
 pub mod Ends
 pub mod Complete
 pub mod Sound
@@ -6,9 +5,6 @@ pub mod Stops
 pub mod Deep
 pub mod Walks
 pub mod Outcomes
-pub mod Heights
-pub mod Merged
-pub mod Stacks
 pub mod Settled
 pub mod Told
 pub mod Homes

@@ -3,24 +3,25 @@ use Rattle.std.proofs.Common.{◌≡◌, ℕ, ◌≤◌, Bool, true, false, nat_
 use Rattle.std.specs.Prelude.{if◌then◌else◌}
 use Rattle.asl_lexer.specs.declared.token.TokenKind.{TokenKind}
 use Rattle.asl_lexer.specs.declared.token.TokenKind.TheVariants as t
-use Rattle.asl_parser.specs.declared.mark.Spot.{Spot}
-use Rattle.asl_parser.specs.declared.mark.Lexeme.TheVariants as l
-use Rattle.asl_parser.specs.declared.subtree.Subtree.{Subtree}
-use Rattle.asl_parser.specs.declared.subtree.Subtrees.{Subtrees}
-use Rattle.asl_parser.specs.declared.frame.Frame.{Frame}
-use Rattle.asl_parser.specs.declared.frame.Frame.TheVariants as f
-use Rattle.asl_parser.specs.declared.frame.ParserState.{ParserState}
-use Rattle.asl_parser.specs.declared.frame.ParserState.TheVariants as st
-use Rattle.asl_parser.specs.declared.frame.Refusal.{Refusal}
-use Rattle.asl_parser.specs.declared.frame.Refusal.TheVariants as r
-use Rattle.asl_parser.specs.declared.open.FrameKind.{FrameKind}
-use Rattle.asl_parser.specs.declared.open.FrameKind.TheVariants as k
+use Rattle.asl_syntax.specs.declared.mark.Spot.{Spot}
+use Rattle.asl_syntax.specs.declared.mark.Lexeme.TheVariants as l
+use Rattle.asl_syntax.specs.declared.subtree.Subtree.{Subtree}
+use Rattle.asl_syntax.specs.declared.subtree.Subtrees.{Subtrees}
+use Rattle.asl_syntax.specs.declared.frame.Frame.{Frame}
+use Rattle.asl_syntax.specs.declared.frame.Frame.TheVariants as f
+use Rattle.asl_parser.specs.declared.state.ParserState.{ParserState}
+use Rattle.asl_parser.specs.declared.state.ParserState.TheVariants as st
+use Rattle.asl_parser.specs.declared.state.Refusal.{Refusal}
+use Rattle.asl_parser.specs.declared.state.Refusal.TheVariants as r
+use Rattle.asl_syntax.specs.declared.open.FrameKind.{FrameKind}
+use Rattle.asl_syntax.specs.declared.open.FrameKind.TheVariants as k
 use Rattle.asl_parser.specs.declared.stage.Stage.{Stage}
 use Rattle.asl_parser.specs.declared.stage.Stage.TheVariants as g
-use Rattle.asl_parser.specs.Grow.{no_subtrees, applied, item}
-use Rattle.asl_parser.specs.Machine.{Config, depth, settle, enclosed_by, after, called, sequence, listed, step_by}
-use Rattle.asl_parser.specs.Marks.{is_word, lexeme_by}
-use Rattle.asl_parser.specs.Opens.{kind_of, added, tree_of}
+use Rattle.asl_syntax.specs.Grow.{no_subtrees, applied, item}
+use Rattle.asl_syntax.specs.Frames.{depth}
+use Rattle.asl_parser.specs.Machine.{Config, settle, enclosed_by, after, called, sequence, listed, step_by}
+use Rattle.asl_syntax.specs.Marks.{is_word, lexeme_by}
+use Rattle.asl_syntax.specs.Opens.{kind_of, added, tree_of}
 use Rattle.asl_parser.specs.Stages.{BeginsNext, state_of, ends}
 
 -- ---- how much is open

@@ -5,21 +5,22 @@ use Rattle.std.proofs.lemmas.Bool.{le-leb}
 use Rattle.asl_lexer.specs.declared.token.Token.{Token}
 use Rattle.asl_lexer.specs.declared.token.TokenKind.{TokenKind}
 use Rattle.asl_lexer.specs.declared.token.TokenKind.TheVariants as t
-use Rattle.asl_parser.specs.declared.mark.Spot.{Spot}
-use Rattle.asl_parser.specs.declared.mark.Lexeme.TheVariants as l
-use Rattle.asl_parser.specs.declared.mark.Mark.{Mark}
-use Rattle.asl_parser.specs.declared.subtree.Subtrees.{Subtrees}
-use Rattle.asl_parser.specs.declared.frame.Frame.{Frame}
-use Rattle.asl_parser.specs.declared.frame.Refusal.{Refusal}
-use Rattle.asl_parser.specs.declared.frame.Refusal.TheVariants as r
-use Rattle.asl_parser.specs.declared.frame.ParserState.TheVariants as st
+use Rattle.asl_syntax.specs.declared.mark.Spot.{Spot}
+use Rattle.asl_syntax.specs.declared.mark.Lexeme.TheVariants as l
+use Rattle.asl_syntax.specs.declared.mark.Mark.{Mark}
+use Rattle.asl_syntax.specs.declared.subtree.Subtrees.{Subtrees}
+use Rattle.asl_syntax.specs.declared.frame.Frame.{Frame}
+use Rattle.asl_parser.specs.declared.state.Refusal.{Refusal}
+use Rattle.asl_parser.specs.declared.state.Refusal.TheVariants as r
+use Rattle.asl_parser.specs.declared.state.ParserState.TheVariants as st
 use Rattle.asl_parser.specs.declared.reader.Syntax.{Syntax}
 use Rattle.asl_parser.specs.declared.reader.Syntax.TheVariants as y
 use Rattle.asl_parser.specs.declared.stage.Stage.{Stage}
 use Rattle.asl_parser.specs.declared.stage.Stage.TheVariants as g
-use Rattle.asl_parser.specs.Grow.{no_subtrees, limit}
-use Rattle.asl_parser.specs.Machine.{Config, stop, deep, depth, walk, within, step, step_by, begin, argument, first_argument, sequence}
-use Rattle.asl_parser.specs.Marks.{mark, marks, is_word, lexeme_by}
+use Rattle.asl_syntax.specs.Grow.{no_subtrees, limit}
+use Rattle.asl_syntax.specs.Frames.{depth}
+use Rattle.asl_parser.specs.Machine.{Config, stop, deep, walk, within, step, step_by, begin, argument, first_argument, sequence}
+use Rattle.asl_syntax.specs.Marks.{mark, marks, is_word, lexeme_by}
 use Rattle.asl_parser.specs.Pairs.{MayPass}
 use Rattle.asl_parser.specs.Reading.{Advances, FailsAt, Comes, ComesTo}
 use Rattle.asl_parser.specs.Stages.{state_of, Holds, StepsTo, begins}

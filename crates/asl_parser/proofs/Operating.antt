@@ -3,33 +3,34 @@ use Rattle.std.proofs.Common.{◌≡◌, ℕ, suc, ◌+◌, ◌<◌, ◌≤◌, 
 use Rattle.std.specs.Prelude.{nat_eq, if◌then◌else◌}
 use Rattle.std.proofs.lemmas.Bool.{le-leb, lt-leb}
 use Rattle.asl_lexer.specs.declared.token.Token.{Token}
-use Rattle.asl_parser.specs.declared.mark.Spot.{Spot}
-use Rattle.asl_parser.specs.declared.mark.Lexeme.{Lexeme}
-use Rattle.asl_parser.specs.declared.mark.Lexeme.TheVariants as l
-use Rattle.asl_parser.specs.declared.mark.Look.{Look}
-use Rattle.asl_parser.specs.declared.mark.Look.TheVariants as look
-use Rattle.asl_parser.specs.declared.mark.Mark.{Mark}
-use Rattle.asl_parser.specs.declared.raw.Infix.{Infix}
-use Rattle.asl_parser.specs.declared.raw.Raw.TheVariants as raw
-use Rattle.asl_parser.specs.declared.sign.Sign.TheVariants as s
-use Rattle.asl_parser.specs.declared.sign.Strength.{Strength}
-use Rattle.asl_parser.specs.declared.subtree.Subtree.{Subtree}
-use Rattle.asl_parser.specs.declared.subtree.Subtrees.{Subtrees}
-use Rattle.asl_parser.specs.declared.frame.Frame.{Frame}
-use Rattle.asl_parser.specs.declared.frame.Frame.TheVariants as f
-use Rattle.asl_parser.specs.declared.frame.ParserState.{ParserState}
-use Rattle.asl_parser.specs.declared.frame.ParserState.TheVariants as st
+use Rattle.asl_syntax.specs.declared.mark.Spot.{Spot}
+use Rattle.asl_syntax.specs.declared.mark.Lexeme.{Lexeme}
+use Rattle.asl_syntax.specs.declared.mark.Lexeme.TheVariants as l
+use Rattle.asl_syntax.specs.declared.mark.Look.{Look}
+use Rattle.asl_syntax.specs.declared.mark.Look.TheVariants as look
+use Rattle.asl_syntax.specs.declared.mark.Mark.{Mark}
+use Rattle.asl_syntax.specs.declared.raw.Infix.{Infix}
+use Rattle.asl_syntax.specs.declared.raw.Raw.TheVariants as raw
+use Rattle.asl_syntax.specs.declared.sign.Sign.TheVariants as s
+use Rattle.asl_syntax.specs.declared.sign.Strength.{Strength}
+use Rattle.asl_syntax.specs.declared.subtree.Subtree.{Subtree}
+use Rattle.asl_syntax.specs.declared.subtree.Subtrees.{Subtrees}
+use Rattle.asl_syntax.specs.declared.frame.Frame.{Frame}
+use Rattle.asl_syntax.specs.declared.frame.Frame.TheVariants as f
+use Rattle.asl_parser.specs.declared.state.ParserState.{ParserState}
+use Rattle.asl_parser.specs.declared.state.ParserState.TheVariants as st
 use Rattle.asl_parser.specs.declared.stage.Stage.{Stage}
 use Rattle.asl_parser.specs.declared.stage.Stage.TheVariants as g
-use Rattle.asl_parser.specs.Grow.{limit, no_subtrees, leaf, item, joined, applied, apply_raw, node_over, leading}
-use Rattle.asl_parser.specs.Machine.{Config, depth, walk, within, step, step_by, begin, word, word_by, after, after_by, after_lexeme, enclosed, operator, allow, settle, room}
-use Rattle.asl_parser.specs.Looks.{lexeme_of}
-use Rattle.asl_parser.specs.Marks.{mark, marks, lexeme}
-use Rattle.asl_parser.specs.Opens.{IsOne, tree_of}
+use Rattle.asl_syntax.specs.Grow.{limit, no_subtrees, leaf, item, joined, applied, apply_raw, node_over, leading}
+use Rattle.asl_syntax.specs.Frames.{depth, room}
+use Rattle.asl_parser.specs.Machine.{Config, walk, within, step, step_by, begin, word, word_by, after, after_by, after_lexeme, enclosed, operator, allow, settle}
+use Rattle.asl_syntax.specs.Looks.{lexeme_of}
+use Rattle.asl_syntax.specs.Marks.{mark, marks, lexeme}
+use Rattle.asl_syntax.specs.Opens.{IsOne, tree_of}
 use Rattle.asl_parser.specs.Operating.{pulls, applies, AppliesNode, PassesBefore, MayOperate, IsOperator}
 use Rattle.asl_parser.specs.Pairs.{plain_by, plain, HoldsNode}
 use Rattle.asl_parser.specs.Reading.{Advances, Comes}
-use Rattle.asl_parser.specs.Signs.{strength}
+use Rattle.asl_syntax.specs.Signs.{strength}
 use Rattle.asl_parser.specs.Stages.{Holds, state_of}
 use Rattle.asl_parser.proofs.Complete.{Binds, IsStrength, is_strength}
 use Rattle.asl_parser.proofs.Next.{settled_low}

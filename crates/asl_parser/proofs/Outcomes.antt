@@ -1,11 +1,11 @@
 -- What a walk reaches, and what the call answers.
 use Rattle.std.proofs.Common.{◌≡◌, List, Result, Ok, Err, sym, ap, ◌∙◌, inl, inr, arith}
 use Rattle.asl_lexer.specs.declared.token.Token.{Token}
-use Rattle.asl_parser.specs.declared.raw.RawUnit.{RawUnit}
-use Rattle.asl_parser.specs.declared.subtree.Subtrees.{Subtrees}
+use Rattle.asl_syntax.specs.declared.raw.RawUnit.{RawUnit}
+use Rattle.asl_syntax.specs.declared.subtree.Subtrees.{Subtrees}
 use Rattle.asl_parser.specs.declared.reader.Syntax.{Syntax}
 use Rattle.asl_parser.specs.declared.reader.Syntax.TheVariants as e
-use Rattle.asl_parser.specs.Marks.{marks}
+use Rattle.asl_syntax.specs.Marks.{marks}
 use Rattle.asl_parser.specs.Machine.{source, reading}
 use Rattle.asl_parser.specs.Parse.{EndsIn, HasOutcome, Gives, tall, grown_to, outcome_by, outcome}
 use Rattle.asl_parser.proofs.Walks.{length-marks}

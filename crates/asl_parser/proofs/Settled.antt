@@ -1,23 +1,24 @@
 -- Operators that are applied to the tree that is held.
 use Rattle.std.proofs.Common.{◌≡◌, ℕ, ◌<◌, ◌≤◌, Some, Bool, true, false, List, [], ◌∷◌, length, refl, sym, ap, ◌∙◌, arith}
-use Rattle.asl_parser.specs.declared.raw.Infix.{Infix}
-use Rattle.asl_parser.specs.declared.mark.Spot.{Spot}
-use Rattle.asl_parser.specs.declared.mark.Lexeme.{Lexeme}
-use Rattle.asl_parser.specs.declared.subtree.Subtree.{Subtree}
-use Rattle.asl_parser.specs.declared.subtree.Subtrees.{Subtrees}
-use Rattle.asl_parser.specs.declared.frame.Frame.{Frame}
-use Rattle.asl_parser.specs.declared.frame.Frame.TheVariants as f
-use Rattle.asl_parser.specs.declared.open.FrameKind.TheVariants as k
+use Rattle.asl_syntax.specs.declared.raw.Infix.{Infix}
+use Rattle.asl_syntax.specs.declared.mark.Spot.{Spot}
+use Rattle.asl_syntax.specs.declared.mark.Lexeme.{Lexeme}
+use Rattle.asl_syntax.specs.declared.subtree.Subtree.{Subtree}
+use Rattle.asl_syntax.specs.declared.subtree.Subtrees.{Subtrees}
+use Rattle.asl_syntax.specs.declared.frame.Frame.{Frame}
+use Rattle.asl_syntax.specs.declared.frame.Frame.TheVariants as f
+use Rattle.asl_syntax.specs.declared.open.FrameKind.TheVariants as k
 use Rattle.std.proofs.lemmas.Bool.{le-leb}
-use Rattle.asl_parser.specs.declared.raw.Infix.TheVariants as op
-use Rattle.asl_parser.specs.declared.sign.Strength.{Strength}
-use Rattle.asl_parser.specs.declared.frame.ParserState.TheVariants as st
-use Rattle.asl_parser.specs.Grow.{leading, node_over, apply_raw, join, joined, no_subtrees, applied, posted}
-use Rattle.asl_parser.specs.Machine.{settle, operator, allow, room, listed}
-use Rattle.asl_parser.specs.Opens.{kind_of, done_of, around, frame_on, single, tree_of, IsOne}
+use Rattle.asl_syntax.specs.declared.raw.Infix.TheVariants as op
+use Rattle.asl_syntax.specs.declared.sign.Strength.{Strength}
+use Rattle.asl_parser.specs.declared.state.ParserState.TheVariants as st
+use Rattle.asl_syntax.specs.Grow.{leading, node_over, apply_raw, join, joined, no_subtrees, applied, posted}
+use Rattle.asl_syntax.specs.Frames.{room}
+use Rattle.asl_parser.specs.Machine.{settle, operator, allow, listed}
+use Rattle.asl_syntax.specs.Opens.{kind_of, done_of, around, frame_on, single, tree_of, IsOne}
 use Rattle.asl_parser.specs.Steps.{binds, applied_once, index_closed, omitted}
-use Rattle.asl_parser.proofs.Merged.{merged_none}
-use Rattle.asl_parser.proofs.Stacks.{one_single}
+use Rattle.asl_syntax.proofs.Merged.{merged_none}
+use Rattle.asl_syntax.proofs.Stacks.{one_single}
 
 -- ---- one operator
 

@@ -1,21 +1,22 @@
 -- Where the reading stops, the longest front ends.
 use Rattle.std.proofs.Common.{◌≡◌, ℕ, suc, ◌+◌, ◌-◌, ◌≤◌, ◌<◌, false, List, [], ◌∷◌, ◌++◌, Option, Some, None, refl, sym, ap, subst, ◌∙◌, arith}
-use Rattle.asl_parser.specs.declared.sign.Sign.{Sign}
-use Rattle.asl_parser.specs.declared.sign.Sign.TheVariants as s
-use Rattle.asl_parser.specs.declared.mark.Spot.{Spot}
-use Rattle.asl_parser.specs.declared.mark.Mark.{Mark}
-use Rattle.asl_parser.specs.declared.raw.Infix.{Infix}
-use Rattle.asl_parser.specs.declared.raw.Infix.TheVariants as op
-use Rattle.asl_parser.specs.declared.subtree.Subtree.{Subtree}
-use Rattle.asl_parser.specs.declared.subtree.Subtrees.{Subtrees}
-use Rattle.asl_parser.specs.declared.frame.Frame.{Frame}
-use Rattle.asl_parser.specs.declared.frame.Frame.TheVariants as f
-use Rattle.asl_parser.specs.declared.frame.ParserState.{ParserState}
-use Rattle.asl_parser.specs.declared.frame.ParserState.TheVariants as st
-use Rattle.asl_parser.specs.Trees.{Tree, Trees, TreeGroup, none, more, absent}
-use Rattle.asl_parser.specs.Trees as t
-use Rattle.asl_parser.specs.Grow.{no_subtrees, joined, applied, item, grown, grown_all, grown_in}
-use Rattle.asl_parser.specs.Machine.{Config, Answer, source, stop, deep, walk, within, start, room, settle, begin, sequence, listed, after, argument, first_argument, element, first_element, step, run, finish, finish_whole, close_source}
+use Rattle.asl_syntax.specs.declared.sign.Sign.{Sign}
+use Rattle.asl_syntax.specs.declared.sign.Sign.TheVariants as s
+use Rattle.asl_syntax.specs.declared.mark.Spot.{Spot}
+use Rattle.asl_syntax.specs.declared.mark.Mark.{Mark}
+use Rattle.asl_syntax.specs.declared.raw.Infix.{Infix}
+use Rattle.asl_syntax.specs.declared.raw.Infix.TheVariants as op
+use Rattle.asl_syntax.specs.declared.subtree.Subtree.{Subtree}
+use Rattle.asl_syntax.specs.declared.subtree.Subtrees.{Subtrees}
+use Rattle.asl_syntax.specs.declared.frame.Frame.{Frame}
+use Rattle.asl_syntax.specs.declared.frame.Frame.TheVariants as f
+use Rattle.asl_parser.specs.declared.state.ParserState.{ParserState}
+use Rattle.asl_parser.specs.declared.state.ParserState.TheVariants as st
+use Rattle.asl_syntax.specs.Trees.{Tree, Trees, TreeGroup, none, more, absent}
+use Rattle.asl_syntax.specs.Trees as t
+use Rattle.asl_syntax.specs.Grow.{no_subtrees, joined, applied, item, grown, grown_all, grown_in}
+use Rattle.asl_syntax.specs.Frames.{start, room}
+use Rattle.asl_parser.specs.Machine.{Config, Answer, source, stop, deep, walk, within, settle, begin, sequence, listed, after, argument, first_argument, element, first_element, step, run, finish, finish_whole, close_source}
 use Rattle.asl_parser.specs.Grammar.{at, sign, word, Phrase, expression, arguments, body, given, before, brace_list, members, member, sequence as row_of, all, is_paren, opens_paren, MayFollow, Reads, IsSource}
 use Rattle.asl_parser.specs.Grammar as g
 use Rattle.std.proofs.Common.{length, take, drop, append_assoc}

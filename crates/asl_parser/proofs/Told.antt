@@ -2,17 +2,18 @@
 use Rattle.std.proofs.Common.{◌≡◌, ℕ, suc, ◌≤◌, ◌<◌, ◌⊎◌, inl, inr, List, length, drop, Option, Some, None, Result, Ok, Err, refl, sym, ap, subst, ◌∙◌, arith}
 use Rattle.std.specs.Prelude.{IfOk, OnOk, IfErr}
 use Rattle.asl_lexer.specs.declared.token.Token.{Token}
-use Rattle.asl_parser.specs.declared.raw.Raw.{Raw}
-use Rattle.asl_parser.specs.declared.raw.RawUnit.{RawUnit}
-use Rattle.asl_parser.specs.declared.subtree.Subtrees.{Subtrees}
-use Rattle.asl_parser.specs.declared.mark.Mark.{Mark}
-use Rattle.asl_parser.specs.declared.frame.ParserState.TheVariants as st
+use Rattle.asl_syntax.specs.declared.raw.Raw.{Raw}
+use Rattle.asl_syntax.specs.declared.raw.RawUnit.{RawUnit}
+use Rattle.asl_syntax.specs.declared.subtree.Subtrees.{Subtrees}
+use Rattle.asl_syntax.specs.declared.mark.Mark.{Mark}
+use Rattle.asl_parser.specs.declared.state.ParserState.TheVariants as st
 use Rattle.asl_parser.specs.declared.reader.Syntax.{Syntax}
 use Rattle.asl_parser.specs.declared.reader.Syntax.TheVariants as e
-use Rattle.asl_parser.specs.Marks.{marks}
-use Rattle.asl_parser.specs.Trees.{Trees}
-use Rattle.asl_parser.specs.Grow.{limit, at_depth, or_else, grown_all}
-use Rattle.asl_parser.specs.Machine.{Answer, source, stop, deep, run, reading, start}
+use Rattle.asl_syntax.specs.Marks.{marks}
+use Rattle.asl_syntax.specs.Trees.{Trees}
+use Rattle.asl_syntax.specs.Grow.{limit, at_depth, or_else, grown_all}
+use Rattle.asl_syntax.specs.Frames.{start}
+use Rattle.asl_parser.specs.Machine.{Answer, source, stop, deep, run, reading}
 use Rattle.asl_parser.specs.Grammar.{IsSource, Spells}
 use Rattle.asl_parser.specs.Depth.{IsShallow, IsLow, opens, grows}
 use Rattle.asl_parser.specs.Parse.{HasOutcome, Fails, ParseOutcome, read, stopped, sunk, tall, grown_to, outcome_by, outcome}
@@ -21,7 +22,7 @@ use Rattle.asl_parser.proofs.Complete.{spelled_is_read, NotDeep}
 use Rattle.asl_parser.proofs.Sound.{read_is_spelled}
 use Rattle.asl_parser.proofs.Stops.{is_longest_front}
 use Rattle.asl_parser.proofs.Deep.{limited_source, limited_stop, is_too_deep, is_shallow}
-use Rattle.asl_parser.proofs.Heights.{kept_raws, kept_none, tall_node}
+use Rattle.asl_syntax.proofs.Heights.{kept_raws, kept_none, tall_node}
 
 -- ---- from an outcome to an answer
 

@@ -3,16 +3,17 @@ use Rattle.std.proofs.Common.{◌≡◌, ℕ, zero, suc, ◌+◌, ◌≤◌, ◌
 use Rattle.std.proofs.lemmas.List.{drop_all}
 use Rattle.std.proofs.lemmas.Bool.{le-leb, lt-leb}
 use Rattle.asl_lexer.specs.declared.token.Token.{Token}
-use Rattle.asl_parser.specs.declared.mark.Mark.{Mark}
-use Rattle.asl_parser.specs.declared.subtree.Subtrees.{Subtrees}
-use Rattle.asl_parser.specs.declared.frame.Frame.{Frame}
-use Rattle.asl_parser.specs.declared.frame.ParserState.{ParserState}
-use Rattle.asl_parser.specs.declared.frame.Refusal.{Refusal}
-use Rattle.asl_parser.specs.declared.frame.Refusal.TheVariants as r
+use Rattle.asl_syntax.specs.declared.mark.Mark.{Mark}
+use Rattle.asl_syntax.specs.declared.subtree.Subtrees.{Subtrees}
+use Rattle.asl_syntax.specs.declared.frame.Frame.{Frame}
+use Rattle.asl_parser.specs.declared.state.ParserState.{ParserState}
+use Rattle.asl_parser.specs.declared.state.Refusal.{Refusal}
+use Rattle.asl_parser.specs.declared.state.Refusal.TheVariants as r
 use Rattle.asl_parser.specs.declared.stage.Stage.{Stage}
-use Rattle.asl_parser.specs.Marks.{mark, marks}
+use Rattle.asl_syntax.specs.Marks.{mark, marks}
 use Rattle.asl_parser.specs.Stages.{StepsTo}
-use Rattle.asl_parser.specs.Machine.{Finishes, Answer, stop, deep, Config, step, walk, within, depth, finish}
+use Rattle.asl_syntax.specs.Frames.{depth}
+use Rattle.asl_parser.specs.Machine.{Finishes, Answer, stop, deep, Config, step, walk, within, finish}
 
 -- ---- tokens and their marks
 

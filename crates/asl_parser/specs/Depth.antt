@@ -1,10 +1,10 @@
 -- How much is open at the end of a front, and how tall a tree is.
 use Rattle.std.specs.Prelude.{◌≡◌, ℕ, suc, ◌≤◌, ◌<◌, List, [], length, take, Some, None}
-use Rattle.asl_parser.specs.declared.mark.Mark.{Mark}
-use Rattle.asl_parser.specs.declared.frame.Frame.{Frame}
-use Rattle.asl_parser.specs.declared.frame.ParserState.{ParserState}
-use Rattle.asl_parser.specs.Trees.{Trees, nodes_of, first_below}
-use Rattle.asl_parser.specs.Machine.{depth}
+use Rattle.asl_syntax.specs.declared.mark.Mark.{Mark}
+use Rattle.asl_syntax.specs.declared.frame.Frame.{Frame}
+use Rattle.asl_parser.specs.declared.state.ParserState.{ParserState}
+use Rattle.asl_syntax.specs.Trees.{Trees, nodes_of, first_below}
+use Rattle.asl_syntax.specs.Frames.{depth}
 use Rattle.asl_parser.specs.Grammar.{IsSource}
 use Rattle.asl_parser.specs.Front.{IsFrontIn, IsFront}
 

@@ -1,20 +1,20 @@
 -- What a list of tokens spells: one rule for each production.
 use Rattle.std.specs.Prelude.{◌≡◌, ℕ, ◌≤◌, Bool, true, false, List, [], ◌∷◌, Option, Some, None}
 use Rattle.asl_lexer.specs.declared.token.Token.{Token}
-use Rattle.asl_parser.specs.declared.sign.Sign.{Sign}
-use Rattle.asl_parser.specs.declared.sign.Sign.TheVariants as s
-use Rattle.asl_parser.specs.declared.sign.Strength.{Strength}
-use Rattle.asl_parser.specs.declared.mark.Spot.{Spot}
-use Rattle.asl_parser.specs.declared.mark.Lexeme.{Lexeme}
-use Rattle.asl_parser.specs.declared.mark.Lexeme.TheVariants as l
-use Rattle.asl_parser.specs.declared.mark.Mark.{Mark}
-use Rattle.asl_parser.specs.declared.raw.Infix.{Infix}
-use Rattle.asl_parser.specs.declared.raw.Infix.TheVariants as op
-use Rattle.asl_parser.specs.declared.raw.Raw.{Raw}
-use Rattle.asl_parser.specs.Signs.{strength}
-use Rattle.asl_parser.specs.Marks.{marks}
-use Rattle.asl_parser.specs.Trees as t
-use Rattle.asl_parser.specs.Trees.{Tree, Trees, TreeGroup, none, more, absent, raws_of}
+use Rattle.asl_syntax.specs.declared.sign.Sign.{Sign}
+use Rattle.asl_syntax.specs.declared.sign.Sign.TheVariants as s
+use Rattle.asl_syntax.specs.declared.sign.Strength.{Strength}
+use Rattle.asl_syntax.specs.declared.mark.Spot.{Spot}
+use Rattle.asl_syntax.specs.declared.mark.Lexeme.{Lexeme}
+use Rattle.asl_syntax.specs.declared.mark.Lexeme.TheVariants as l
+use Rattle.asl_syntax.specs.declared.mark.Mark.{Mark}
+use Rattle.asl_syntax.specs.declared.raw.Infix.{Infix}
+use Rattle.asl_syntax.specs.declared.raw.Infix.TheVariants as op
+use Rattle.asl_syntax.specs.declared.raw.Raw.{Raw}
+use Rattle.asl_syntax.specs.Signs.{strength}
+use Rattle.asl_syntax.specs.Marks.{marks}
+use Rattle.asl_syntax.specs.Trees as t
+use Rattle.asl_syntax.specs.Trees.{Tree, Trees, TreeGroup, none, more, absent, raws_of}
 
 abbrev pub at : Spot → Lexeme → Mark
 at p x = record { spot = p; lexeme = x }

@@ -1,10 +1,3 @@
-pub mod Signs
-pub mod Marks
-pub mod Looks
-pub mod Trees
-pub mod Levels
-pub mod Opens
-pub mod Grow
 pub mod Machine
 pub mod Stages
 pub mod Steps
@@ -12,15 +5,7 @@ pub mod Grammar
 pub mod Front
 pub mod Depth
 pub mod Parse
-pub mod Place
-pub mod Written
-pub mod Within
 pub mod Pairs
 pub mod Reading
 pub mod Calls
 pub mod Operating
-pub mod Sizes
-pub mod Views
-pub mod TextBytes
-pub mod Nodes
-pub mod Falls

@@ -1,37 +1,30 @@
 -- One step for each token.
-use Rattle.std.specs.Prelude.{ℕ, ◌+◌, Bool, true, false, nat_le, nat_eq, if◌then◌else◌, List, [], ◌∷◌, Option, Some, None, Result, Ok, Err}
+use Rattle.std.specs.Prelude.{ℕ, Bool, true, false, nat_le, if◌then◌else◌, List, [], ◌∷◌, Option, Some, None, Result, Ok, Err}
 use Rattle.std.specs.Prelude.{◌≡◌}
-use Rattle.asl_parser.specs.declared.sign.Sign.{Sign}
-use Rattle.asl_parser.specs.declared.sign.Sign.TheVariants as s
-use Rattle.asl_parser.specs.declared.sign.Strength.{Strength}
-use Rattle.asl_parser.specs.declared.mark.Spot.{Spot}
-use Rattle.asl_parser.specs.declared.mark.Lexeme.{Lexeme}
-use Rattle.asl_parser.specs.declared.mark.Lexeme.TheVariants as l
-use Rattle.asl_parser.specs.declared.mark.Mark.{Mark}
-use Rattle.asl_parser.specs.declared.raw.Raw.TheVariants as raw
-use Rattle.asl_parser.specs.declared.raw.Infix.{Infix}
-use Rattle.asl_parser.specs.declared.raw.Infix.TheVariants as op
-use Rattle.asl_parser.specs.declared.subtree.Subtree.{Subtree}
-use Rattle.asl_parser.specs.declared.subtree.Subtrees.{Subtrees}
-use Rattle.asl_parser.specs.declared.frame.Frame.{Frame}
-use Rattle.asl_parser.specs.declared.frame.Frame.TheVariants as f
-use Rattle.asl_parser.specs.declared.frame.ParserState.{ParserState}
-use Rattle.asl_parser.specs.declared.frame.ParserState.TheVariants as st
-use Rattle.asl_parser.specs.declared.frame.Refusal.{Refusal}
-use Rattle.asl_parser.specs.declared.frame.Refusal.TheVariants as r
-use Rattle.asl_parser.specs.Signs.{strength}
-use Rattle.asl_parser.specs.Grow.{limit, leaf, no_subtrees, joined, applied, posted, listing, item}
+use Rattle.asl_syntax.specs.declared.sign.Sign.{Sign}
+use Rattle.asl_syntax.specs.declared.sign.Sign.TheVariants as s
+use Rattle.asl_syntax.specs.declared.sign.Strength.{Strength}
+use Rattle.asl_syntax.specs.declared.mark.Spot.{Spot}
+use Rattle.asl_syntax.specs.declared.mark.Lexeme.{Lexeme}
+use Rattle.asl_syntax.specs.declared.mark.Lexeme.TheVariants as l
+use Rattle.asl_syntax.specs.declared.mark.Mark.{Mark}
+use Rattle.asl_syntax.specs.declared.raw.Raw.TheVariants as raw
+use Rattle.asl_syntax.specs.declared.raw.Infix.{Infix}
+use Rattle.asl_syntax.specs.declared.raw.Infix.TheVariants as op
+use Rattle.asl_syntax.specs.declared.subtree.Subtree.{Subtree}
+use Rattle.asl_syntax.specs.declared.subtree.Subtrees.{Subtrees}
+use Rattle.asl_syntax.specs.declared.frame.Frame.{Frame}
+use Rattle.asl_syntax.specs.declared.frame.Frame.TheVariants as f
+use Rattle.asl_parser.specs.declared.state.ParserState.{ParserState}
+use Rattle.asl_parser.specs.declared.state.ParserState.TheVariants as st
+use Rattle.asl_parser.specs.declared.state.Refusal.{Refusal}
+use Rattle.asl_parser.specs.declared.state.Refusal.TheVariants as r
+use Rattle.asl_syntax.specs.Signs.{strength}
+use Rattle.asl_syntax.specs.Frames.{room, depth, start}
+use Rattle.asl_syntax.specs.Grow.{limit, leaf, no_subtrees, joined, applied, posted, listing, item}
 
 abbrev pub Config : Type 0
 Config = ParserState × List Frame
-
--- the level of the expressions that may stand next
-abbrev pub room : List Frame → ℕ
-room (f.Pending level most p o xs ∷ fs) = most
-room (f.Unit done ∷ fs) = 0
-room (f.List p done ∷ fs) = 0
-room [] = 0
-room (_ ∷ fs) = 13
 
 abbrev pub allow : Bool → Config → Option Config
 allow true c = Some c
@@ -228,16 +221,6 @@ finish (st.Called p w args) fs = finish_whole (item p w (Some args) None) fs
 finish (st.Whole e) fs = finish_whole e fs
 finish _ _ = stop []
 
--- brackets, prefix operators and assignments that are open
-abbrev pub weight : Frame → ℕ
-weight (f.Unit done) = 0
-weight (f.Pending level most p o xs) = if nat_eq level most then 1 else 0
-weight _ = 1
-
-abbrev pub depth : List Frame → ℕ
-depth [] = 0
-depth (frame ∷ fs) = weight frame + depth fs
-
 -- The test says how much may be open.
 unfoldable pub walk : (ℕ → Bool) → List Mark → ParserState → List Frame → Answer
 walk ok [] s fs = if ok (depth fs) then finish s fs else deep []
@@ -251,10 +234,6 @@ run ts s fs = walk unlimited ts s fs
 
 abbrev pub within : ℕ → ℕ → Bool
 within most d = nat_le d most
-
--- before the first token
-abbrev pub start : List Frame
-start = f.Unit no_subtrees ∷ []
 
 -- what reading a source answers
 unfoldable pub reading : List Mark → Answer

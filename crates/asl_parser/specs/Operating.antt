@@ -1,26 +1,27 @@
 -- An operator between two operands that is read with its last operand, where that is one token.
 use Rattle.std.specs.Prelude.{◌≡◌, ℕ, ◌+◌, ◌≤◌, Bool, true, false, nat_le, List, [], ◌∷◌, ◌++◌, Option, Some, None, Result, Ok, Err}
-use Rattle.asl_parser.specs.declared.mark.Spot.{Spot}
-use Rattle.asl_parser.specs.declared.mark.Lexeme.{Lexeme}
-use Rattle.asl_parser.specs.declared.mark.Lexeme.TheVariants as l
-use Rattle.asl_parser.specs.declared.mark.Look.{Look}
-use Rattle.asl_parser.specs.declared.mark.Look.TheVariants as look
-use Rattle.asl_parser.specs.declared.mark.Mark.{Mark}
-use Rattle.asl_parser.specs.declared.raw.Infix.{Infix}
-use Rattle.asl_parser.specs.declared.sign.Sign.TheVariants as s
-use Rattle.asl_parser.specs.declared.sign.Strength.{Strength}
-use Rattle.asl_parser.specs.declared.subtree.Subtree.{Subtree}
-use Rattle.asl_parser.specs.declared.subtree.Subtrees.{Subtrees}
-use Rattle.asl_parser.specs.declared.frame.Frame.{Frame}
-use Rattle.asl_parser.specs.declared.frame.Refusal.{Refusal}
-use Rattle.asl_parser.specs.declared.frame.Refusal.TheVariants as r
-use Rattle.asl_parser.specs.declared.frame.ParserState.{ParserState}
-use Rattle.asl_parser.specs.declared.frame.ParserState.TheVariants as st
-use Rattle.asl_parser.specs.Grow.{limit, applied}
-use Rattle.asl_parser.specs.Machine.{Config, depth, walk, within, step}
-use Rattle.asl_parser.specs.Opens.{IsOne, tree_of}
+use Rattle.asl_syntax.specs.declared.mark.Spot.{Spot}
+use Rattle.asl_syntax.specs.declared.mark.Lexeme.{Lexeme}
+use Rattle.asl_syntax.specs.declared.mark.Lexeme.TheVariants as l
+use Rattle.asl_syntax.specs.declared.mark.Look.{Look}
+use Rattle.asl_syntax.specs.declared.mark.Look.TheVariants as look
+use Rattle.asl_syntax.specs.declared.mark.Mark.{Mark}
+use Rattle.asl_syntax.specs.declared.raw.Infix.{Infix}
+use Rattle.asl_syntax.specs.declared.sign.Sign.TheVariants as s
+use Rattle.asl_syntax.specs.declared.sign.Strength.{Strength}
+use Rattle.asl_syntax.specs.declared.subtree.Subtree.{Subtree}
+use Rattle.asl_syntax.specs.declared.subtree.Subtrees.{Subtrees}
+use Rattle.asl_syntax.specs.declared.frame.Frame.{Frame}
+use Rattle.asl_parser.specs.declared.state.Refusal.{Refusal}
+use Rattle.asl_parser.specs.declared.state.Refusal.TheVariants as r
+use Rattle.asl_parser.specs.declared.state.ParserState.{ParserState}
+use Rattle.asl_parser.specs.declared.state.ParserState.TheVariants as st
+use Rattle.asl_syntax.specs.Grow.{limit, applied}
+use Rattle.asl_syntax.specs.Frames.{depth}
+use Rattle.asl_parser.specs.Machine.{Config, walk, within, step}
+use Rattle.asl_syntax.specs.Opens.{IsOne, tree_of}
 use Rattle.asl_parser.specs.Reading.{Advances}
-use Rattle.asl_parser.specs.Signs.{strength}
+use Rattle.asl_syntax.specs.Signs.{strength}
 
 abbrev pub pulls : ℕ → Option Strength → Bool
 pulls level None = false

@@ -1,18 +1,19 @@
 -- A token that is an expression by itself, read with the token behind it.
 use Rattle.std.specs.Prelude.{◌≡◌, ℕ, ◌≤◌, Bool, true, false, List, ◌++◌, Option, Some, None}
-use Rattle.asl_parser.specs.declared.mark.Spot.{Spot}
-use Rattle.asl_parser.specs.declared.mark.Lexeme.{Lexeme}
-use Rattle.asl_parser.specs.declared.mark.Lexeme.TheVariants as l
-use Rattle.asl_parser.specs.declared.mark.Mark.{Mark}
-use Rattle.asl_parser.specs.declared.raw.Raw.TheVariants as raw
-use Rattle.asl_parser.specs.declared.subtree.Subtree.{Subtree}
-use Rattle.asl_parser.specs.declared.subtree.Subtrees.{Subtrees}
-use Rattle.asl_parser.specs.declared.frame.Frame.{Frame}
-use Rattle.asl_parser.specs.declared.frame.ParserState.{ParserState}
-use Rattle.asl_parser.specs.declared.frame.ParserState.TheVariants as st
-use Rattle.asl_parser.specs.Grow.{leaf, item, no_subtrees, joined}
-use Rattle.asl_parser.specs.Machine.{Config, depth, walk}
-use Rattle.asl_parser.specs.Opens.{added}
+use Rattle.asl_syntax.specs.declared.mark.Spot.{Spot}
+use Rattle.asl_syntax.specs.declared.mark.Lexeme.{Lexeme}
+use Rattle.asl_syntax.specs.declared.mark.Lexeme.TheVariants as l
+use Rattle.asl_syntax.specs.declared.mark.Mark.{Mark}
+use Rattle.asl_syntax.specs.declared.raw.Raw.TheVariants as raw
+use Rattle.asl_syntax.specs.declared.subtree.Subtree.{Subtree}
+use Rattle.asl_syntax.specs.declared.subtree.Subtrees.{Subtrees}
+use Rattle.asl_syntax.specs.declared.frame.Frame.{Frame}
+use Rattle.asl_parser.specs.declared.state.ParserState.{ParserState}
+use Rattle.asl_parser.specs.declared.state.ParserState.TheVariants as st
+use Rattle.asl_syntax.specs.Grow.{leaf, item, no_subtrees, joined}
+use Rattle.asl_syntax.specs.Frames.{depth}
+use Rattle.asl_parser.specs.Machine.{Config, walk}
+use Rattle.asl_syntax.specs.Opens.{added}
 
 -- the tree of a token that is an expression by itself
 abbrev pub plain_by : Spot → Lexeme → Option Subtree

@@ -1,14 +1,14 @@
 -- What a call that reads a source ensures.
 use Rattle.std.specs.Prelude.{◌≡◌, ℕ, suc, ◌≤◌, ◌<◌, List, length, drop, Option, Some, None, Result, Ok, Err, ◌⊎◌}
 use Rattle.asl_lexer.specs.declared.token.Token.{Token}
-use Rattle.asl_parser.specs.declared.raw.Raw.{Raw}
-use Rattle.asl_parser.specs.declared.raw.RawUnit.{RawUnit}
-use Rattle.asl_parser.specs.declared.subtree.Subtrees.{Subtrees}
-use Rattle.asl_parser.specs.declared.mark.Mark.{Mark}
+use Rattle.asl_syntax.specs.declared.raw.Raw.{Raw}
+use Rattle.asl_syntax.specs.declared.raw.RawUnit.{RawUnit}
+use Rattle.asl_syntax.specs.declared.subtree.Subtrees.{Subtrees}
+use Rattle.asl_syntax.specs.declared.mark.Mark.{Mark}
 use Rattle.asl_parser.specs.declared.reader.Syntax.{Syntax}
 use Rattle.asl_parser.specs.declared.reader.Syntax.TheVariants as e
-use Rattle.asl_parser.specs.Marks.{marks}
-use Rattle.asl_parser.specs.Grow.{limit, at_depth, or_else}
+use Rattle.asl_syntax.specs.Marks.{marks}
+use Rattle.asl_syntax.specs.Grow.{limit, at_depth, or_else}
 use Rattle.asl_parser.specs.Machine.{Answer, source, stop, deep, reading}
 use Rattle.asl_parser.specs.Front.{IsLongestFront}
 use Rattle.asl_parser.specs.Depth.{IsTooDeep, IsShallow}

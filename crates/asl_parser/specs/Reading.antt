@@ -1,12 +1,13 @@
 -- A reading that goes on from one token.
 use Rattle.std.specs.Prelude.{◌≡◌, ℕ, ◌+◌, ◌<◌, ◌≤◌, List, length, drop, Result, Ok, Err}
-use Rattle.asl_parser.specs.declared.mark.Mark.{Mark}
-use Rattle.asl_parser.specs.declared.frame.Refusal.{Refusal}
-use Rattle.asl_parser.specs.declared.frame.Refusal.TheVariants as r
+use Rattle.asl_syntax.specs.declared.mark.Mark.{Mark}
+use Rattle.asl_parser.specs.declared.state.Refusal.{Refusal}
+use Rattle.asl_parser.specs.declared.state.Refusal.TheVariants as r
 use Rattle.asl_parser.specs.declared.reader.Syntax.{Syntax}
 use Rattle.asl_parser.specs.declared.reader.Syntax.TheVariants as y
-use Rattle.asl_parser.specs.Grow.{limit}
-use Rattle.asl_parser.specs.Machine.{Config, depth, walk, within}
+use Rattle.asl_syntax.specs.Grow.{limit}
+use Rattle.asl_syntax.specs.Frames.{depth}
+use Rattle.asl_parser.specs.Machine.{Config, walk, within}
 use Rattle.asl_parser.specs.Parse.{EndsIn}
 
 -- The reading came over the tokens between these places, and no more is open than may be.

@@ -1,18 +1,19 @@
 -- What was read last, as the code keeps it: the trees of it are held.
 use Rattle.std.specs.Prelude.{◌≡◌, ℕ, ◌≤◌, Bool, true, false, List, Option, Some, None, Result, Ok, Err}
-use Rattle.asl_parser.specs.declared.mark.Spot.{Spot}
-use Rattle.asl_parser.specs.declared.mark.Lexeme.TheVariants as l
-use Rattle.asl_parser.specs.declared.subtree.Subtrees.{Subtrees}
-use Rattle.asl_parser.specs.declared.frame.Frame.{Frame}
-use Rattle.asl_parser.specs.declared.frame.ParserState.{ParserState}
-use Rattle.asl_parser.specs.declared.frame.ParserState.TheVariants as st
-use Rattle.asl_parser.specs.declared.frame.Refusal.{Refusal}
-use Rattle.asl_parser.specs.declared.frame.Refusal.TheVariants as r
+use Rattle.asl_syntax.specs.declared.mark.Spot.{Spot}
+use Rattle.asl_syntax.specs.declared.mark.Lexeme.TheVariants as l
+use Rattle.asl_syntax.specs.declared.subtree.Subtrees.{Subtrees}
+use Rattle.asl_syntax.specs.declared.frame.Frame.{Frame}
+use Rattle.asl_parser.specs.declared.state.ParserState.{ParserState}
+use Rattle.asl_parser.specs.declared.state.ParserState.TheVariants as st
+use Rattle.asl_parser.specs.declared.state.Refusal.{Refusal}
+use Rattle.asl_parser.specs.declared.state.Refusal.TheVariants as r
 use Rattle.asl_parser.specs.declared.stage.Stage.{Stage}
 use Rattle.asl_parser.specs.declared.stage.Stage.TheVariants as g
-use Rattle.asl_parser.specs.Grow.{no_subtrees}
-use Rattle.asl_parser.specs.Machine.{Config, depth, step_by}
-use Rattle.asl_parser.specs.Opens.{IsOne, tree_of}
+use Rattle.asl_syntax.specs.Grow.{no_subtrees}
+use Rattle.asl_syntax.specs.Frames.{depth}
+use Rattle.asl_parser.specs.Machine.{Config, step_by}
+use Rattle.asl_syntax.specs.Opens.{IsOne, tree_of}
 
 -- the state with these trees
 abbrev pub state_of : Stage → Subtrees → ParserState

@@ -1,14 +1,14 @@
 -- Parts of a step, by what is open.
 use Rattle.std.specs.Prelude.{ℕ, Bool, true, false, nat_le, List, ◌∷◌, Option, Some, None}
-use Rattle.asl_parser.specs.declared.mark.Lexeme.{Lexeme}
-use Rattle.asl_parser.specs.declared.raw.Infix.TheVariants as op
-use Rattle.asl_parser.specs.declared.subtree.Subtree.{Subtree}
-use Rattle.asl_parser.specs.declared.frame.Frame.{Frame}
-use Rattle.asl_parser.specs.declared.frame.Frame.TheVariants as f
-use Rattle.asl_parser.specs.declared.frame.ParserState.TheVariants as st
-use Rattle.asl_parser.specs.declared.open.FrameKind.{FrameKind}
-use Rattle.asl_parser.specs.declared.open.FrameKind.TheVariants as k
-use Rattle.asl_parser.specs.Grow.{no_subtrees, joined, applied, listing}
+use Rattle.asl_syntax.specs.declared.mark.Lexeme.{Lexeme}
+use Rattle.asl_syntax.specs.declared.raw.Infix.TheVariants as op
+use Rattle.asl_syntax.specs.declared.subtree.Subtree.{Subtree}
+use Rattle.asl_syntax.specs.declared.frame.Frame.{Frame}
+use Rattle.asl_syntax.specs.declared.frame.Frame.TheVariants as f
+use Rattle.asl_parser.specs.declared.state.ParserState.TheVariants as st
+use Rattle.asl_syntax.specs.declared.open.FrameKind.{FrameKind}
+use Rattle.asl_syntax.specs.declared.open.FrameKind.TheVariants as k
+use Rattle.asl_syntax.specs.Grow.{no_subtrees, joined, applied, listing}
 use Rattle.asl_parser.specs.Machine.{Config, args_listed}
 
 -- ---- kinds

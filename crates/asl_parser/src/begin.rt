@@ -1,20 +1,19 @@
 //! What a token does where an expression or an item of the source begins.
 ghost use Rattle.std.specs.Prelude.{◌≡◌, Some};
-ghost use Rattle.asl_parser.specs.Grow.{no_subtrees, leaf};
-ghost use Rattle.asl_parser.specs.Looks.{lexeme_of};
+ghost use Rattle.asl_syntax.specs.Grow.{no_subtrees, leaf};
+ghost use Rattle.asl_syntax.specs.Looks.{lexeme_of};
 ghost use Rattle.asl_parser.specs.Machine as spec;
 ghost use Rattle.asl_parser.specs.Stages.{StepsTo};
-ghost use Rattle.asl_parser.specs.declared.mark.Lexeme.TheVariants as lexemes;
-ghost use Rattle.asl_parser.specs.declared.frame.ParserState.TheVariants as states;
+ghost use Rattle.asl_syntax.specs.declared.mark.Lexeme.TheVariants as lexemes;
+ghost use Rattle.asl_parser.specs.declared.state.ParserState.TheVariants as states;
 
-use crate::frame::Refusal;
-use crate::mark::{Look, Spot};
-use crate::nodes::{SyntaxNode, comma_node, number_node, semicolon_node, text_node};
-use crate::open::FrameKind;
-use crate::sign::Sign;
-use crate::stack::Stack;
 use crate::stage::{Stage, set_operand, set_sequence, set_whole, set_word};
+use crate::state::Refusal;
 use asl_lexer::token::Token;
+use asl_syntax::{
+    FrameKind, Look, Sign, Spot, Stack, SyntaxNode, comma_node, number_node, semicolon_node,
+    text_node,
+};
 
 // A word or path, of which the machine keeps the text.
 fn word<'a>(

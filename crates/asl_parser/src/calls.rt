@@ -1,21 +1,18 @@
 //! The arguments of a call that are expressions by themselves, which are read before a frame is opened.
 ghost use Rattle.std.specs.Prelude.{◌≡◌, ◌∷◌, [], ◌^◌, ◌<◌, ◌≤◌, suc, length, IfOk, OnOk};
 ghost use Rattle.asl_parser.specs.Calls.{SignIs, HoldsArgument, Reads, stage_of as stage_by};
-ghost use Rattle.asl_parser.specs.Grow.{no_subtrees, limit};
-ghost use Rattle.asl_parser.specs.Machine.{depth};
-ghost use Rattle.asl_parser.specs.Marks.{mark, marks, lexeme};
+ghost use Rattle.asl_syntax.specs.Grow.{no_subtrees, limit};
+ghost use Rattle.asl_syntax.specs.Frames.{depth};
+ghost use Rattle.asl_syntax.specs.Marks.{mark, marks, lexeme};
 ghost use Rattle.asl_parser.specs.Reading.{Passes};
 ghost use Rattle.asl_parser.specs.Stages.{state_of, Holds};
-ghost use Rattle.asl_parser.specs.declared.frame.Frame.TheVariants as frames;
-ghost use Rattle.asl_parser.specs.declared.frame.ParserState.TheVariants as states;
+ghost use Rattle.asl_syntax.specs.declared.frame.Frame.TheVariants as frames;
+ghost use Rattle.asl_parser.specs.declared.state.ParserState.TheVariants as states;
 
-use crate::mark::{Look, Spot, look_of};
-use crate::open::FrameKind;
 use crate::plain::{hold_plain, is_plain};
-use crate::sign::Sign;
-use crate::stack::Stack;
 use crate::stage::{Stage, set_called};
 use asl_lexer::token::Token;
+use asl_syntax::{FrameKind, Look, Sign, Spot, Stack, look_of};
 use std::alloc::AllocError;
 
 /// How far the arguments of a call were read.

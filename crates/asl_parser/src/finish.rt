@@ -1,18 +1,16 @@
 //! What the end of the tokens does.
 ghost use Rattle.std.specs.Prelude.{◌≡◌};
-ghost use Rattle.asl_parser.specs.Grow.{no_subtrees};
+ghost use Rattle.asl_syntax.specs.Grow.{no_subtrees};
 ghost use Rattle.asl_parser.specs.Machine as spec;
 ghost use Rattle.asl_parser.specs.Machine.{Finishes};
-ghost use Rattle.asl_parser.specs.Opens.{IsOne, tree_of};
+ghost use Rattle.asl_syntax.specs.Opens.{IsOne, tree_of};
 ghost use Rattle.asl_parser.specs.Stages.{state_of, Holds};
-ghost use Rattle.asl_parser.specs.declared.frame.ParserState.TheVariants as states;
+ghost use Rattle.asl_parser.specs.declared.state.ParserState.TheVariants as states;
 
-use crate::frame::{LOOSEST, Refusal};
-use crate::open::FrameKind;
 use crate::settle::settle;
-use crate::stack::Stack;
 use crate::stage::Stage;
-use crate::subtree::Subtrees;
+use crate::state::Refusal;
+use asl_syntax::{FrameKind, LOOSEST, Stack, Subtrees};
 
 // The end of the source, whose items were read.
 fn finish_source<'a>(stack: &mut Stack<'a>) -> Result<Subtrees<'a>, Refusal>

@@ -1,31 +1,28 @@
 //! What one token does.
 ghost use Rattle.std.specs.Prelude.{◌≡◌, ◌∷◌, ◌+◌, ◌^◌, ◌<◌, suc, Some, None, true, OnOk};
-ghost use Rattle.asl_parser.specs.Grow.{no_subtrees, item};
-ghost use Rattle.asl_parser.specs.Looks.{lexeme_of};
-ghost use Rattle.asl_parser.specs.Marks.{mark, lexeme};
+ghost use Rattle.asl_syntax.specs.Grow.{no_subtrees, item};
+ghost use Rattle.asl_syntax.specs.Looks.{lexeme_of};
+ghost use Rattle.asl_syntax.specs.Marks.{mark, lexeme};
 ghost use Rattle.asl_parser.specs.Machine as spec;
-ghost use Rattle.asl_parser.specs.Opens.{IsOne, tree_of, kind_of, added, lists};
+ghost use Rattle.asl_syntax.specs.Opens.{IsOne, tree_of, kind_of, added, lists};
 ghost use Rattle.asl_parser.specs.Stages.{state_of, Holds, StepsTo, BeginsNext, ends};
 ghost use Rattle.asl_parser.specs.Steps.{is_index, index_closed};
-ghost use Rattle.asl_parser.specs.declared.mark.Lexeme.TheVariants as lexemes;
-ghost use Rattle.asl_parser.specs.declared.sign.Sign.TheVariants as signs;
-ghost use Rattle.asl_parser.specs.declared.frame.Frame.TheVariants as frames;
-ghost use Rattle.asl_parser.specs.declared.frame.ParserState.TheVariants as states;
+ghost use Rattle.asl_syntax.specs.declared.mark.Lexeme.TheVariants as lexemes;
+ghost use Rattle.asl_syntax.specs.declared.sign.Sign.TheVariants as signs;
+ghost use Rattle.asl_syntax.specs.declared.frame.Frame.TheVariants as frames;
+ghost use Rattle.asl_parser.specs.declared.state.ParserState.TheVariants as states;
 ghost use Rattle.asl_parser.specs.declared.stage.Stage.TheVariants as stages;
 
 use crate::begin::{begin, sequence};
-use crate::frame::{LOOSEST, Refusal};
-use crate::mark::{Look, Spot};
 use crate::members::{argued, argument, element, first_argument, first_element, listed};
-use crate::open::FrameKind;
-use crate::raw::Infix;
 use crate::settle::{post, settle};
-use crate::sign::{Sign, Strength, strength_of};
-use crate::stack::Stack;
 use crate::stage::{Stage, set_first_argument, set_operand, set_sequence, set_whole};
-use crate::subtree::BoxedSubtrees;
-use crate::text::SyntaxText;
+use crate::state::Refusal;
 use asl_lexer::token::Token;
+use asl_syntax::{
+    BoxedSubtrees, FrameKind, Infix, LOOSEST, Look, Sign, Spot, Stack, Strength, SyntaxText,
+    strength_of,
+};
 use std::alloc::AllocError;
 use std::mem::replace;
 

@@ -1,22 +1,18 @@
 //! What a token does in arguments and in lists.
 ghost use Rattle.std.specs.Prelude.{◌≡◌, true};
-ghost use Rattle.asl_parser.specs.Grow.{no_subtrees, leaf};
-ghost use Rattle.asl_parser.specs.Looks.{lexeme_of};
+ghost use Rattle.asl_syntax.specs.Grow.{no_subtrees, leaf};
+ghost use Rattle.asl_syntax.specs.Looks.{lexeme_of};
 ghost use Rattle.asl_parser.specs.Machine as spec;
-ghost use Rattle.asl_parser.specs.Opens.{IsOne, tree_of, kind_of};
+ghost use Rattle.asl_syntax.specs.Opens.{IsOne, tree_of, kind_of};
 ghost use Rattle.asl_parser.specs.Stages.{StepsTo};
 ghost use Rattle.asl_parser.specs.Steps.{is_args, is_list, args_closed, list_closed, omitted as omitted_by};
-ghost use Rattle.asl_parser.specs.declared.raw.Raw.TheVariants as raws;
+ghost use Rattle.asl_syntax.specs.declared.raw.Raw.TheVariants as raws;
 
 use crate::begin::begin;
-use crate::frame::Refusal;
-use crate::mark::{Look, Spot};
-use crate::nodes::{NodeForm, SyntaxNode};
-use crate::open::FrameKind;
-use crate::sign::Sign;
-use crate::stack::Stack;
 use crate::stage::{Stage, set_argument, set_called, set_element, set_first_element, set_listed};
+use crate::state::Refusal;
 use asl_lexer::token::Token;
+use asl_syntax::{FrameKind, Look, NodeForm, Sign, Spot, Stack, SyntaxNode};
 
 // The end of arguments, all of which are held or were read.
 #[inline(never)]

@@ -1,23 +1,20 @@
 //! An operator between two operands, which is read with its last operand where that is one token.
 ghost use Rattle.std.specs.Prelude.{◌≡◌, ◌+◌, ◌^◌, ◌<◌, length, get_or, IfOk, OnOk};
-ghost use Rattle.asl_parser.specs.Grow.{limit, no_subtrees};
-ghost use Rattle.asl_parser.specs.Machine.{depth};
-ghost use Rattle.asl_parser.specs.Marks.{mark, marks, lexeme};
-ghost use Rattle.asl_parser.specs.Opens.{IsOne};
+ghost use Rattle.asl_syntax.specs.Grow.{limit, no_subtrees};
+ghost use Rattle.asl_syntax.specs.Frames.{depth};
+ghost use Rattle.asl_syntax.specs.Marks.{mark, marks, lexeme};
+ghost use Rattle.asl_syntax.specs.Opens.{IsOne};
 ghost use Rattle.asl_parser.specs.Operating as spec;
 ghost use Rattle.asl_parser.specs.Operating.{AppliesNode, MayOperate, MayBracket};
 ghost use Rattle.asl_parser.specs.Pairs.{plain};
-ghost use Rattle.asl_parser.specs.declared.mark.Lexeme.TheVariants as lexemes;
-ghost use Rattle.asl_parser.specs.declared.sign.Sign.TheVariants as signs;
+ghost use Rattle.asl_syntax.specs.declared.mark.Lexeme.TheVariants as lexemes;
+ghost use Rattle.asl_syntax.specs.declared.sign.Sign.TheVariants as signs;
 
-use crate::frame::Refusal;
-use crate::mark::{Look, Spot, look_of};
 use crate::plain::{hold_plain, is_plain};
-use crate::raw::Infix;
 use crate::settle::settle;
-use crate::sign::{Sign, strength_of};
-use crate::stack::Stack;
+use crate::state::Refusal;
 use asl_lexer::token::Token;
+use asl_syntax::{Infix, Look, Sign, Spot, Stack, look_of, strength_of};
 use std::alloc::AllocError;
 
 // Whether operators of this level are applied to the operand before a token.

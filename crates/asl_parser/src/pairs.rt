@@ -1,23 +1,21 @@
 //! Tokens that are expressions by themselves, each read with the token behind it.
 ghost use Rattle.std.specs.Prelude.{◌≡◌, ◌∷◌, [], ◌+◌, ◌^◌, ◌<◌, suc, None, true, IfOk, OnOk};
-ghost use Rattle.asl_parser.specs.Grow.{no_subtrees, item};
-ghost use Rattle.asl_parser.specs.Looks.{lexeme_of};
-ghost use Rattle.asl_parser.specs.Marks.{mark, lexeme};
-ghost use Rattle.asl_parser.specs.Opens.{kind_of, added, lists};
+ghost use Rattle.asl_syntax.specs.Grow.{no_subtrees, item};
+ghost use Rattle.asl_syntax.specs.Looks.{lexeme_of};
+ghost use Rattle.asl_syntax.specs.Marks.{mark, lexeme};
+ghost use Rattle.asl_syntax.specs.Opens.{kind_of, added, lists};
 ghost use Rattle.asl_parser.specs.Pairs.{plain, IsArgument, AddsNode, MayPass};
 ghost use Rattle.asl_parser.specs.Stages.{state_of, Holds};
 ghost use Rattle.asl_parser.specs.Steps.{is_args, is_body};
-ghost use Rattle.asl_parser.specs.declared.frame.ParserState.TheVariants as states;
-ghost use Rattle.asl_parser.specs.declared.mark.Lexeme.TheVariants as lexemes;
-ghost use Rattle.asl_parser.specs.declared.sign.Sign.TheVariants as signs;
+ghost use Rattle.asl_parser.specs.declared.state.ParserState.TheVariants as states;
+ghost use Rattle.asl_syntax.specs.declared.mark.Lexeme.TheVariants as lexemes;
+ghost use Rattle.asl_syntax.specs.declared.sign.Sign.TheVariants as signs;
 
-use crate::mark::{Look, Spot};
-use crate::nodes::{NodeForm, SyntaxNode, number_node, text_node};
-use crate::open::FrameKind;
-use crate::sign::Sign;
-use crate::stack::Stack;
 use crate::stage::{Stage, set_argument, set_called};
 use asl_lexer::token::{Token, TokenKind};
+use asl_syntax::{
+    FrameKind, Look, NodeForm, Sign, Spot, Stack, SyntaxNode, number_node, text_node,
+};
 use std::alloc::AllocError;
 
 fn add_word(stack: &mut Stack<'_>, number: u32, token: &Token) -> Result<(), AllocError>

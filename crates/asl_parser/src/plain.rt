@@ -1,14 +1,12 @@
 //! Tokens that are expressions by themselves.
 ghost use Rattle.std.specs.Prelude.{◌≡◌, None, IfOk, OnOk, is_some};
-ghost use Rattle.asl_parser.specs.Grow.{joined, item};
-ghost use Rattle.asl_parser.specs.Marks as spec;
-ghost use Rattle.asl_parser.specs.Marks.{mark};
+ghost use Rattle.asl_syntax.specs.Grow.{joined, item};
+ghost use Rattle.asl_syntax.specs.Marks as spec;
+ghost use Rattle.asl_syntax.specs.Marks.{mark};
 ghost use Rattle.asl_parser.specs.Pairs.{plain, HoldsNode};
 
-use crate::mark::Spot;
-use crate::nodes::{number_node, text_node};
-use crate::stack::Stack;
 use asl_lexer::token::{Token, TokenKind};
+use asl_syntax::{Spot, Stack, number_node, text_node};
 use std::alloc::AllocError;
 
 fn hold_word(stack: &mut Stack<'_>, number: u32, token: &Token) -> Result<(), AllocError>

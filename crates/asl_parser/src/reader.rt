@@ -1,36 +1,33 @@
 //! From tokens to the tree.
 ghost use Rattle.std.specs.Prelude.{◌≡◌, ◌+◌, ◌<◌, ◌≤◌, ◌^◌, ℕ, true, length, get_or, List, All, IfSome, IfOk, OnOk, IfErr};
-ghost use Rattle.asl_parser.specs.Looks.{lexeme_of};
-ghost use Rattle.asl_parser.specs.Machine as spec;
-ghost use Rattle.asl_parser.specs.Marks.{mark, marks, lexeme};
+ghost use Rattle.asl_syntax.specs.Looks.{lexeme_of};
+ghost use Rattle.asl_parser.specs.Machine.{reading};
+ghost use Rattle.asl_syntax.specs.Frames as spec;
+ghost use Rattle.asl_syntax.specs.Marks.{mark, marks, lexeme};
 ghost use Rattle.asl_parser.specs.Parse.{HasOutcome, EndsIn, Gives, Fails, outcome};
 ghost use Rattle.asl_parser.specs.Reading.{Advances, FailsAt, ComesTo};
 ghost use Rattle.asl_parser.specs.Stages.{state_of, Holds, begins as stage_begins, ends as stage_ends};
 ghost use Rattle.asl_parser.specs.Grammar.{Spells};
 ghost use Rattle.asl_parser.specs.Depth.{IsShallow, IsLow};
-ghost use Rattle.asl_parser.specs.Grow.{limit, no_subtrees};
-ghost use Rattle.asl_parser.specs.Within.{AreWithin};
-ghost use Rattle.asl_parser.specs.Written.{writtens};
-ghost use Rattle.asl_parser.specs.declared.frame.ParserState.TheVariants as states;
-ghost use Rattle.asl_parser.specs.declared.mark.Look.TheVariants as looks;
-ghost use Rattle.asl_parser.specs.declared.raw.Raw.{Raw};
-ghost use Rattle.asl_parser.specs.declared.sign.Sign.TheVariants as signs;
+ghost use Rattle.asl_syntax.specs.Grow.{limit, no_subtrees};
+ghost use Rattle.asl_syntax.specs.Within.{AreWithin};
+ghost use Rattle.asl_syntax.specs.Written.{writtens};
+ghost use Rattle.asl_parser.specs.declared.state.ParserState.TheVariants as states;
+ghost use Rattle.asl_syntax.specs.declared.mark.Look.TheVariants as looks;
+ghost use Rattle.asl_syntax.specs.declared.raw.Raw.{Raw};
+ghost use Rattle.asl_syntax.specs.declared.sign.Sign.TheVariants as signs;
 ghost use Rattle.asl_parser.specs.declared.stage.Stage.TheVariants as stages;
 ghost use Rattle.asl_parser.specs.Operating.{IsOperator};
 
 use crate::calls::call;
 use crate::finish::finish;
-use crate::frame::Refusal;
 use crate::machine::{end_expression, hold_word, step, word_on};
-use crate::mark::{Look, is_word, look_of};
 use crate::operators::{bracket, operate};
 use crate::pairs::skip_pair;
-use crate::raw::{Infix, RawUnit};
-use crate::sign::Sign;
-use crate::stack::Stack;
 use crate::stage::{Stage, begins, ends, set_whole};
-use crate::subtree::{Subtrees, TALLEST};
+use crate::state::Refusal;
 use asl_lexer::token::{Token, TokenKind, Tokens};
+use asl_syntax::{Infix, Look, RawUnit, Sign, Stack, Subtrees, TALLEST, is_word, look_of};
 use bumpalo::Bump;
 use std::alloc::{AllocError, Global};
 
@@ -379,7 +376,7 @@ fn advance<'a>(
 
 fn read<'a>(alloc: Global, arena: &'a Bump, tokens: &[Token]) -> Result<Subtrees<'a>, Syntax>
     requires { length tokens.now < 2 ^ 32 }
-    ensures { EndsIn result (marks 0 tokens.now) (spec.reading (marks 0 tokens.now)) }
+    ensures { EndsIn result (marks 0 tokens.now) (reading (marks 0 tokens.now)) }
 {
     let mut stack = Stack::new(alloc, arena);
     let mut stage = Stage::Sequence;

@@ -1,14 +1,11 @@
 //! Operators over the trees that are held.
 ghost use Rattle.std.specs.Prelude.{◌≡◌, OnOk};
-ghost use Rattle.asl_parser.specs.Grow.{posted};
+ghost use Rattle.asl_syntax.specs.Grow.{posted};
 ghost use Rattle.asl_parser.specs.Machine as spec;
-ghost use Rattle.asl_parser.specs.Opens.{IsOne, tree_of};
+ghost use Rattle.asl_syntax.specs.Opens.{IsOne, tree_of};
 ghost use Rattle.asl_parser.specs.Steps.{binds as binds_by, applied_once};
 
-use crate::mark::Spot;
-use crate::open::FrameKind;
-use crate::raw::Infix;
-use crate::stack::Stack;
+use asl_syntax::{FrameKind, Infix, Spot, Stack};
 use std::alloc::AllocError;
 
 // Whether the innermost frame is an operator that binds at least as tightly.

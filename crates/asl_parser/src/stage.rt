@@ -3,8 +3,7 @@ ghost use Rattle.std.specs.Prelude.{◌≡◌};
 ghost use Rattle.asl_parser.specs.Stages as spec;
 ghost use Rattle.asl_parser.specs.declared.stage.Stage.TheVariants as stages;
 
-use crate::mark::Spot;
-use crate::text::SyntaxText;
+use asl_syntax::{Spot, SyntaxText};
 
 /// What was read last, and so what may come.
 #[derive(Drop)]

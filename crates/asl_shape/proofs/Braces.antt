@@ -1,23 +1,23 @@
 -- Lists in braces.
-use Rattle.std.proofs.Common.{◌≡◌, ℕ, ◌+◌, ◌<◌, length, get_or, drop, drop-cons, add-one, ◌≤◌, List, [], ◌∷◌, refl, ap, ◌∙◌, sym, Option, Some, None, Bool, true, false, ◌&&◌, ◌||◌, if◌then◌else◌}
+use Rattle.std.proofs.Common.{◌≡◌, ℕ, ◌+◌, ◌<◌, length, get_or, drop, ◌≤◌, List, [], ◌∷◌, refl, ap, ◌∙◌, Option, Some, None, Bool, true}
+use Rattle.std.proofs.Common.{false, ◌&&◌, ◌||◌, if◌then◌else◌}
 use Rattle.std.proofs.lemmas.List.{drop_all}
 use Rattle.iasl_messages.specs.declared.place.Place.{Place}
-use Rattle.asl_parser.specs.declared.raw.Infix.{Infix}
-use Rattle.asl_parser.specs.declared.raw.Raw.{Raw}
-use Rattle.asl_parser.specs.declared.raw.Raw.TheVariants as raw
+use Rattle.asl_syntax.specs.declared.raw.Infix.{Infix}
+use Rattle.asl_syntax.specs.declared.raw.Raw.{Raw}
+use Rattle.asl_syntax.specs.declared.raw.Raw.TheVariants as raw
 use Rattle.asl_words.specs.declared.operator.Slot.TheVariants as slot
 use Rattle.asl_words.specs.declared.operator.StringForm.TheVariants as form
-use Rattle.asl_parser.specs.Written.{writtens, written_in}
-use Rattle.asl_shape.specs.Shapes.{is_separator, is_comma, run_after, is_given, is_text, is_none, default_after}
-use Rattle.asl_words.specs.Meanings.{meaning_of, run_behind, is_default}
-use Rattle.asl_shape.specs.AtRaw.{is_separator_at, is_comma_at, run_after_at, is_listed_at, byte_slot_at, is_some, is_text_at, due_at, default_after_at}
+use Rattle.asl_syntax.specs.Written.{writtens}
+use Rattle.asl_shape.specs.Shapes.{is_separator, is_comma, run_after, is_text, is_none, default_after}
+use Rattle.word_meanings.specs.Meanings.{meaning_of, run_behind, is_default}
+use Rattle.asl_terms.specs.AtRaw.{is_some}
+use Rattle.asl_shape.specs.AtRaw.{is_separator_at, is_comma_at, run_after_at, is_listed_at, byte_slot_at, is_text_at, due_at}
+use Rattle.asl_shape.specs.AtRaw.{default_after_at}
 use Rattle.acpi_state.specs.Outcomes.{choose}
 use Rattle.asl_shape.proofs.ItemLaws.{is_none_short, is_none_long}
-use Rattle.asl_parser.specs.Views.{written_number, written_text, written_item, written_apply, written_list, written_comma, written_semicolon, written_empty}
-
-pub given_some : (raws : Option (List Raw)) → is_given (written_in raws) ≡ is_some raws
-given_some None = refl
-given_some (Some raws) = refl
+use Rattle.asl_terms.proofs.Bracketed.{given_some, from_item}
+use Rattle.asl_syntax.specs.Views.{written_number, written_text, written_item, written_apply, written_list, written_comma, written_semicolon, written_empty}
 
 pub separator_number : (place : Place) (n : ℕ) → is_separator_at (raw.Number place n) ≡ false
 unfolding is_separator_at
@@ -206,10 +206,6 @@ unfolding byte_slot_at writtens is_text_at
 bytes_more r rs = refl
 
 pub ruleset byte_rules = (bytes_none, bytes_more, is_none_short, is_none_long)
-
--- a list from one of its items on
-pub from_item : (raws : List Raw) (i : ℕ) (d : Raw) → i < length raws → drop i raws ≡ get_or raws i d ∷ drop (i + 1) raws
-from_item raws i d lt = drop-cons raws i d lt ∙ ap (λ k. get_or raws i d ∷ drop k raws) (sym (add-one i))
 
 pub listed_step : (due : Bool) (raws : List Raw) (i : ℕ) (d : Raw) → i < length raws → is_listed_at due (drop i raws) ≡ choose (due_at due (get_or raws i d)) false (λ next. is_listed_at next (drop (i + 1) raws))
 listed_step due raws i d lt = ap (is_listed_at due) (from_item raws i d lt) ∙ listed_more due (get_or raws i d) (drop (i + 1) raws)

@@ -1,22 +1,25 @@
 -- The list of a field, member by member.
-use Rattle.std.proofs.Common.{◌≡◌, ℕ, ◌+◌, ◌<◌, ◌≤◌, length, get_or, drop, arith, List, [], ◌∷◌, refl, ap, sym, ◌∙◌, Option, Some, None, true, false}
+use Rattle.std.proofs.Common.{◌≡◌, ℕ, ◌+◌, ◌<◌, ◌≤◌, length, get_or, drop, arith, List, [], ◌∷◌, refl, ap, sym, ◌∙◌, Option, Some, None}
+use Rattle.std.proofs.Common.{false}
 use Rattle.std.specs.Prelude.{if◌then◌else◌}
 use Rattle.std.proofs.lemmas.List.{drop_all}
 use Rattle.acpi_state.specs.Outcomes.{choose}
 use Rattle.iasl_messages.specs.declared.place.Place.{Place}
-use Rattle.asl_parser.specs.declared.raw.Infix.{Infix}
-use Rattle.asl_parser.specs.declared.raw.Raw.{Raw}
-use Rattle.asl_parser.specs.declared.raw.Raw.TheVariants as raw
-use Rattle.asl_words.specs.declared.meaning.Meaning.TheVariants as is
-use Rattle.asl_words.specs.Meanings.{meaning_of, is_whole, is_connection}
+use Rattle.asl_syntax.specs.declared.raw.Infix.{Infix}
+use Rattle.asl_syntax.specs.declared.raw.Raw.{Raw}
+use Rattle.asl_syntax.specs.declared.raw.Raw.TheVariants as raw
+use Rattle.word_meanings.specs.declared.meaning.Meaning.TheVariants as is
+use Rattle.word_meanings.specs.Meanings.{meaning_of, is_whole, is_connection}
 use Rattle.asl_shape.specs.declared.fields.Due.{Due}
-use Rattle.asl_parser.specs.Written.{written, writtens}
-use Rattle.asl_shape.specs.Shapes.{meaning_in, next_due, may_stop, nowhere, place_of, first_place, inner_place}
-use Rattle.asl_shape.specs.AtRaw.{is_some, inside_at, is_comma_at, is_separator_at, meaning_at, place_at, first_place_at, inner_place_at, element_place_at, goes_on_at, due_behind_at, is_field_list_at}
-use Rattle.asl_parser.specs.Views.{written_number, written_text, written_item, written_apply, written_list, written_comma, written_semicolon, written_empty}
-use Rattle.asl_shape.proofs.Settled.{join_nothing}
-use Rattle.asl_shape.proofs.Braces.{given_some, from_item}
-use Rattle.asl_shape.proofs.ItemLaws.{inside_written}
+use Rattle.asl_syntax.specs.Written.{written, writtens}
+use Rattle.asl_terms.specs.Terms.{nowhere, place_of}
+use Rattle.asl_shape.specs.Shapes.{meaning_in, next_due, may_stop, first_place, inner_place}
+use Rattle.asl_terms.specs.AtRaw.{is_some, inside_at, place_at}
+use Rattle.asl_shape.specs.AtRaw.{is_comma_at, is_separator_at, meaning_at, first_place_at, inner_place_at, element_place_at, goes_on_at}
+use Rattle.asl_shape.specs.AtRaw.{due_behind_at, is_field_list_at}
+use Rattle.asl_syntax.specs.Views.{written_number, written_text, written_item, written_apply, written_list, written_comma, written_semicolon, written_empty}
+use Rattle.asl_terms.proofs.Settled.{join_nothing}
+use Rattle.asl_terms.proofs.Bracketed.{given_some, from_item, inside_written}
 
 -- ---- what a member is
 

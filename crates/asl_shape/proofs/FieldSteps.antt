@@ -2,20 +2,23 @@
 use Rattle.std.proofs.Common.{◌≡◌, ℕ, ◌+◌, ◌<◌, ◌≤◌, length, get_or, drop, List, [], ◌++◌, append_assoc, refl, ap, ◌∙◌, sym, Option, None, Bool, true, false}
 use Rattle.std.proofs.lemmas.List.{drop_all}
 use Rattle.iasl_messages.specs.declared.message.Message.{Message}
-use Rattle.asl_parser.specs.declared.raw.Raw.{Raw}
+use Rattle.asl_syntax.specs.declared.raw.Raw.{Raw}
 use Rattle.asl_words.specs.declared.operator.Slot.TheVariants as slot
 use Rattle.asl_shape.specs.declared.around.Around.{Around}
 use Rattle.asl_shape.specs.declared.fields.Due.{Due}
 use Rattle.asl_shape.specs.declared.fields.UnitName.{UnitName}
-use Rattle.asl_parser.specs.Written.{writtens}
-use Rattle.asl_words.specs.Meanings.{slot_as, is_whole}
-use Rattle.asl_shape.specs.Plans.{Plan, omitted, Plans, no_plans, join, number_of}
+use Rattle.asl_syntax.specs.Written.{writtens}
+use Rattle.word_meanings.specs.Meanings.{slot_as, is_whole}
+use Rattle.asl_terms.specs.Plans.{Plan, omitted, Plans, no_plans, join, number_of}
 use Rattle.asl_shape.specs.Shapes
-use Rattle.asl_shape.specs.Shapes.{Shaped, fine, begin, followed, field_part, no_comma, whole_alone, begun, of_bits, unit_behind}
-use Rattle.asl_shape.specs.AtRaw.{place_at, shape_at, bare_at, is_separator_at, elements_at, element_place_at, meaning_at, part_at, unit_at, due_behind_at, begin_at, comma_at, bits_at}
-use Rattle.asl_shape.proofs.Terms.{nothing_more}
-use Rattle.asl_shape.proofs.Braces.{from_item}
-use Rattle.asl_shape.proofs.Shapes.{join_assoc, nothing_behind}
+use Rattle.asl_terms.specs.Terms.{Shaped, fine}
+use Rattle.asl_shape.specs.Shapes.{begin, followed, field_part, no_comma, whole_alone, begun, of_bits, unit_behind}
+use Rattle.asl_terms.specs.AtRaw.{place_at}
+use Rattle.asl_shape.specs.AtRaw.{shape_at, bare_at, is_separator_at, elements_at, element_place_at, meaning_at, part_at, unit_at}
+use Rattle.asl_shape.specs.AtRaw.{due_behind_at, begin_at, comma_at, bits_at}
+use Rattle.asl_terms.proofs.Terms.{nothing_more}
+use Rattle.asl_terms.proofs.Bracketed.{from_item}
+use Rattle.asl_terms.proofs.Joins.{join_assoc, nothing_behind}
 
 -- ---- a member, by what is due
 

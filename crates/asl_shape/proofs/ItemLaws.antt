@@ -1,19 +1,20 @@
 -- Items, argument by argument.
-use Rattle.std.proofs.Common.{◌≡◌, suc, nat_le, length, arith, List, [], ◌∷◌, refl, ap, true, false, not, ◌&&◌, ◌||◌, Option, Some, None}
-use Rattle.asl_parser.specs.declared.raw.Raw.{Raw}
+use Rattle.std.proofs.Common.{◌≡◌, nat_le, length, arith, List, [], ◌∷◌, refl, ap, true, false, not, ◌&&◌, ◌||◌}
+use Rattle.asl_syntax.specs.declared.raw.Raw.{Raw}
 use Rattle.asl_tree.specs.declared.term.Op.{Op}
 use Rattle.asl_words.specs.declared.operator.Known.{Known}
 use Rattle.asl_words.specs.declared.operator.Parameter.{Parameter}
 use Rattle.asl_words.specs.declared.operator.TextMacro.{TextMacro}
-use Rattle.asl_words.specs.declared.meaning.Meaning.TheVariants as is
-use Rattle.asl_parser.specs.Written.{written, writtens, written_in}
+use Rattle.word_meanings.specs.declared.meaning.Meaning.TheVariants as is
+use Rattle.asl_syntax.specs.Written.{written, writtens}
 use Rattle.asl_words.specs.declared.operator.FieldWord.{FieldWord}
 use Rattle.asl_words.specs.Operators.{parameters_of, element_parameters, macro_parameters}
 use Rattle.asl_words.specs.Resources.{descriptor_parameters}
 use Rattle.resource_layout.specs.declared.descriptor.Descriptor.{Descriptor}
-use Rattle.asl_shape.specs.Shapes.{is_empty, count, none_empty, is_none, inside_of}
-use Rattle.asl_words.specs.Meanings.{may_end}
-use Rattle.asl_shape.specs.AtRaw.{takes_at, none_empty_at, has_arguments_at, inside_at, is_call_at}
+use Rattle.asl_shape.specs.Shapes.{is_empty, none_empty, is_none}
+use Rattle.word_meanings.specs.Meanings.{may_end}
+use Rattle.asl_shape.specs.AtRaw.{takes_at, none_empty_at, has_arguments_at, is_call_at}
+use Rattle.asl_terms.proofs.Bracketed.{counted}
 
 pub takes_no : (raws : List Raw) → takes_at [] raws ≡ is_none (writtens raws)
 unfolding takes_at writtens
@@ -49,11 +50,6 @@ unfolding none_empty_at writtens
 none_empty_more r rs = refl
 
 pub ruleset empty_rules = (none_empty_end, none_empty_more)
-
-pub counted : (raws : List Raw) → count (writtens raws) ≡ length raws
-unfolding writtens
-counted [] = refl
-counted (r ∷ rs) = ap suc (counted rs)
 
 pub has_operator : (o : Op) (raws : List Raw) → has_arguments_at (is.Operator o) raws ≡ takes_at (parameters_of o) raws
 unfolding has_arguments_at takes_at
@@ -98,13 +94,3 @@ unfolding has_arguments_at takes_at
 has_descriptor d raws = refl
 
 pub ruleset has_rules = (has_operator, has_element, has_macro, has_template, has_descriptor, has_known, has_name, has_path, has_unknown, is_none_short, is_none_long)
-
-pub inside_none : inside_at None ≡ []
-inside_none = refl
-
-pub ruleset inside_rules = (inside_none)
-
-pub inside_written : (raws : Option (List Raw)) → inside_of (written_in raws) ≡ writtens (inside_at raws)
-unfolding writtens
-inside_written None = refl
-inside_written (Some raws) = refl

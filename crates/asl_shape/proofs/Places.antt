@@ -5,7 +5,7 @@ use Rattle.std.specs.List.{All}
 use Rattle.std.proofs.lemmas.List.Elements.{All-cons}
 use Rattle.iasl_messages.specs.declared.place.Place.{Place}
 use Rattle.iasl_messages.specs.declared.message.Message.{Message}
-use Rattle.asl_parser.specs.declared.raw.Raw.{Raw}
+use Rattle.asl_syntax.specs.declared.raw.Raw.{Raw}
 use Rattle.asl_tree.specs.declared.constant.NoConstant.{NoConstant}
 use Rattle.asl_tree.specs.declared.path.Path.{Path}
 use Rattle.asl_tree.specs.declared.term.Op.{Op}
@@ -18,10 +18,10 @@ use Rattle.asl_words.specs.declared.operator.Body.TheVariants as braces
 use Rattle.asl_words.specs.declared.operator.StringForm.{StringForm}
 use Rattle.asl_words.specs.declared.operator.StringForm.TheVariants as form
 use Rattle.asl_words.specs.declared.operator.TextMacro.{TextMacro}
-use Rattle.asl_words.specs.declared.meaning.Reading.{Reading}
-use Rattle.asl_words.specs.declared.meaning.Reading.TheVariants as read
-use Rattle.asl_parser.specs.Written as piece
-use Rattle.asl_parser.specs.Written.{Written, Writtens, WrittenGroup, item, apply, listed, comma, semicolon, empty, none, more, absent, given, written, writtens}
+use Rattle.word_meanings.specs.declared.meaning.Reading.{Reading}
+use Rattle.word_meanings.specs.declared.meaning.Reading.TheVariants as read
+use Rattle.asl_syntax.specs.Written as piece
+use Rattle.asl_syntax.specs.Written.{Written, Writtens, WrittenGroup, item, apply, listed, comma, semicolon, empty, none, more, absent, given, written, writtens}
 use Rattle.acpi_values.specs.Revisions.{width_of}
 use Rattle.asl_shape.specs.Around.{outside}
 use Rattle.asl_shape.specs.declared.around.Around.{Around}
@@ -31,27 +31,37 @@ use Rattle.acpi_state.specs.Outcomes.{choose}
 use Rattle.acpi_values.specs.declared.width.Width.{Width}
 use Rattle.acpi_values.specs.Paths.{NameSeg}
 use Rattle.asl_tree.specs.Names.{single_segment}
-use Rattle.asl_shape.specs.Plans.{Plan, Plans, no_plans, plan_at, how_many, an_integer, a_name, is_omitted, constant_of}
+use Rattle.asl_terms.specs.Plans.{Plan, Plans, no_plans, plan_at, how_many, an_integer, a_name, is_omitted, constant_of}
 use Rattle.asl_words.specs.Paths.{path_of}
 use Rattle.asl_words.specs.declared.operator.FieldWord.{FieldWord}
-use Rattle.asl_words.specs.declared.meaning.Meaning.{Meaning}
-use Rattle.asl_words.specs.Operators.{parameters_of, body_of, role_of, block_parameters, element_parameters, macro_parameters, parameters_as, body_as}
+use Rattle.word_meanings.specs.declared.meaning.Meaning.{Meaning}
+use Rattle.asl_words.specs.Operators.{parameters_of, role_of, block_parameters, element_parameters, macro_parameters, parameters_as}
+use Rattle.asl_words.specs.Operators.{body_as}
 use Rattle.acpi_values.specs.Integers.{wrapped}
 use Rattle.acpi_values.specs.declared.width.Width.TheVariants.{W64}
-use Rattle.asl_shape.specs.Symbols.{symbol_of}
-use Rattle.asl_shape.specs.Shapes.{Shaped, fine, fault_at, refused, unformed, holes_in, counted, count_faults, format_faults, room_faults, template_shape, descriptor_shape, nowhere, valued, evaluated, after, checked, is_member, is_given, takes, count, has_arguments, are_all_types, text_plan, number_shape, string_shape, text_shape}
-use Rattle.asl_shape.specs.Shapes.{path_shape, call_shape, listed_shape, read_shape, item_shape, form_shape, symbol_shape, within, place_of, is_separator, is_listed, byte_slot, list_shape, skipped, run_after, bare, operands, call_args, arguments, arguments_in, contents, members, terms, inside_of, is_element, meaning_in, element_shape}
-use Rattle.asl_shape.specs.Shapes.{macro_shape, macro_text, eisa_shape, uuid_shape, buffer_plan, is_field_list, begin, named_unit, begun, first_place, inner_place, element_place, unit_behind, no_comma, field_part, field_slot, due_behind, elements, case_member, case_value, is_case_member, member_count, is_case_package, cases, default_after}
+use Rattle.asl_terms.specs.Symbols.{symbol_of}
+use Rattle.asl_terms.specs.Terms.{Shaped, fine, fault_at, refused, unformed, holes_in, counted, count_faults, format_faults, nowhere}
+use Rattle.asl_terms.specs.Terms.{valued, evaluated, after, checked, is_member, is_given, count, are_all_types, text_plan, number_shape}
+use Rattle.asl_terms.specs.Terms.{string_shape, text_shape}
+use Rattle.asl_shape.specs.Shapes.{room_faults, template_shape, descriptor_shape, takes, has_arguments}
+use Rattle.asl_terms.specs.Terms.{path_shape, listed_shape, place_of, inside_of, is_element}
+use Rattle.asl_shape.specs.Shapes.{call_shape, read_shape, item_shape, form_shape, symbol_shape, within, is_separator, is_listed, byte_slot}
+use Rattle.asl_shape.specs.Shapes.{list_shape, skipped, run_after, bare, operands, call_args, arguments, arguments_in, contents, members}
+use Rattle.asl_shape.specs.Shapes.{terms, meaning_in, element_shape}
+use Rattle.asl_terms.specs.Terms.{macro_text, eisa_shape, uuid_shape, buffer_plan, case_member, case_value, is_case_member, member_count}
+use Rattle.asl_terms.specs.Terms.{is_case_package}
+use Rattle.asl_shape.specs.Shapes.{macro_shape, is_field_list, begin, named_unit, begun, first_place, inner_place, element_place}
+use Rattle.asl_shape.specs.Shapes.{unit_behind, no_comma, field_part, field_slot, due_behind, elements, cases, default_after}
 use Rattle.asl_words.specs.Resources.{descriptor_parameters, descriptor_body}
 use Rattle.resource_layout.specs.declared.descriptor.Descriptor.{Descriptor}
 use Rattle.asl_shape.specs.Descriptors.{is_roomy}
-use Rattle.asl_words.specs.Meanings.{unfit, item_fault, meaning_of, reading_of, takes_expression, takes_role, slot_as, is_whole, is_connection}
+use Rattle.word_meanings.specs.Meanings.{unfit, item_fault, meaning_of, reading_of, takes_expression, takes_role, slot_as, is_whole, is_connection}
 use Rattle.asl_words.specs.Texts.{is_all_text, has_form}
 use Rattle.resource_macros.specs.Identifiers.{eisaid_of, uuid_of, utf16_of}
 use Rattle.asl_shape.specs.Forms.{start, is_block_word, block_fault, errors_inside, block_errors, no_block, is_block_at, errors_before, first_errors, errors_of, errors_at, alone, errors_in_block, errors_in_blocks, stray_errors, source_errors, block_args, revision_in}
-use Rattle.asl_shape.specs.AtRaw.{place_at}
-use Rattle.asl_parser.specs.Within.{IsIn, IsWithin, AreWithin, IsGroupWithin}
-use Rattle.asl_shape.specs.Places.{AreTold}
+use Rattle.asl_terms.specs.AtRaw.{place_at}
+use Rattle.asl_syntax.specs.Within.{IsIn, IsWithin, AreWithin, IsGroupWithin}
+use Rattle.asl_terms.specs.Places.{AreTold}
 
 module _ (files : ℕ) where
   one : (n : ℕ) (place : Place) → IsIn files place → AreTold files (fault_at n place ∷ [])

@@ -1,21 +1,23 @@
 -- A part of a source, one layer at a time.
-use Rattle.std.proofs.Common.{◌≡◌, OnOk, Result, ℕ, zero, suc, ◌+◌, ◌*◌, ◌<◌, slice_get, ◌≤◌, nat_eq, length, get_or, drop, drop-cons, add-one, arith, List, [], ◌∷◌, ◌++◌, append_assoc, append-nil, refl, ap, ◌∙◌, sym, subst, Vec, Global, Option, Some, None, Bool, true, false, not, ◌&&◌, if◌then◌else◌, length-append}
+use Rattle.std.proofs.Common.{◌≡◌, OnOk, Result, ℕ, zero, suc, ◌+◌, ◌*◌, ◌<◌, slice_get, ◌≤◌, length, get_or, drop, drop-cons, add-one}
+use Rattle.std.proofs.Common.{arith, List, [], ◌∷◌, ◌++◌, append_assoc, append-nil, refl, ap, ◌∙◌, sym, subst, Option, Some, None, Bool}
+use Rattle.std.proofs.Common.{true, false, length-append}
 use Rattle.std.proofs.lemmas.List.{drop_all}
 use Rattle.std.proofs.lemmas.Result.{on_ok_weaker}
 use Rattle.iasl_messages.specs.declared.place.Place.{Place}
 use Rattle.iasl_messages.specs.declared.message.Message.{Message}
 use Rattle.acpi_values.specs.declared.width.Width.{Width}
-use Rattle.asl_parser.specs.declared.raw.Infix.{Infix}
-use Rattle.asl_parser.specs.declared.raw.Raw.{Raw}
-use Rattle.asl_parser.specs.declared.raw.Raw.TheVariants as raw
+use Rattle.asl_syntax.specs.declared.raw.Infix.{Infix}
+use Rattle.asl_syntax.specs.declared.raw.Raw.{Raw}
+use Rattle.asl_syntax.specs.declared.raw.Raw.TheVariants as raw
 use Rattle.asl_tree.specs.declared.term.Op.{Op}
 use Rattle.asl_tree.specs.declared.term.Op.TheVariants as op
 use Rattle.asl_tree.specs.declared.term.Special.{Special}
 use Rattle.asl_tree.specs.declared.term.Node.{Node}
 use Rattle.asl_words.specs.Paths.{path_of}
 use Rattle.asl_shape.specs.declared.around.Around.{Around}
-use Rattle.asl_shape.specs.Plans.{plans_of, Plan, omitted, Plans, no_plans, plan, join, last_plan, with_last}
-use Rattle.asl_shape.proofs.Plans.{plan_form, plan_call, no_plans_are}
+use Rattle.asl_terms.specs.Plans.{plans_of, Plan, omitted, Plans, no_plans, join, last_plan, with_last}
+use Rattle.asl_terms.proofs.Plans.{plan_form, plan_call}
 use Rattle.asl_words.specs.declared.operator.Known.{Known}
 use Rattle.asl_words.specs.declared.operator.Parameter.{Parameter}
 use Rattle.asl_words.specs.declared.operator.Slot.{Slot}
@@ -23,27 +25,33 @@ use Rattle.asl_words.specs.declared.operator.TextMacro.{TextMacro}
 use Rattle.asl_words.specs.declared.operator.Slot.TheVariants as slot
 use Rattle.asl_words.specs.declared.operator.Body.{Body}
 use Rattle.asl_words.specs.declared.operator.Body.TheVariants as braces
-use Rattle.asl_words.specs.declared.meaning.Reading.TheVariants as read
-use Rattle.asl_parser.specs.Written.{writtens, written, written_in}
-use Rattle.asl_parser.specs.Sizes.{size, sizes, size_at, sizes_at, size_in_at}
-use Rattle.asl_parser.specs.Falls.{size_item, size_apply, size_none, size_some}
+use Rattle.word_meanings.specs.declared.meaning.Reading.TheVariants as read
+use Rattle.asl_syntax.specs.Written.{writtens, written, written_in}
+use Rattle.asl_syntax.specs.Sizes.{size, sizes, size_at, sizes_at, size_in_at}
+use Rattle.asl_syntax.specs.Falls.{size_item, size_apply, size_none, size_some}
 use Rattle.asl_words.specs.declared.operator.FieldWord.{FieldWord}
 use Rattle.asl_words.specs.Operators.{parameters_of, body_of, parameters_as, body_as, element_parameters, macro_parameters}
 use Rattle.asl_shape.specs.Shapes
-use Rattle.asl_shape.specs.Symbols.{symbol_of}
-use Rattle.asl_shape.specs.Shapes.{Shaped, fine, refused, template_shape, descriptor_shape, is_given, inside_of, has_arguments, after, checked, evaluated, number_shape, text_shape, listed_shape, form_shape, symbol_shape, read_shape, item_shape}
-use Rattle.asl_shape.specs.Shapes.{one_plan, path_shape, call_shape, known_plan, within, place_of, joined, missing, left_out, list_shape, skipped, is_separator, nowhere, bare, call_args, arguments, contents, meaning_in, element_shape, macro_shape, begin}
-use Rattle.asl_words.specs.Meanings.{item_fault, meaning_of, reading_of, slot_as, unfit}
+use Rattle.asl_terms.specs.Symbols.{symbol_of}
+use Rattle.asl_terms.specs.Terms.{Shaped, fine, refused, is_given, inside_of, after, checked, evaluated, number_shape, text_shape}
+use Rattle.asl_shape.specs.Shapes.{template_shape, descriptor_shape, has_arguments, form_shape, symbol_shape, read_shape, item_shape}
+use Rattle.asl_terms.specs.Terms.{one_plan, path_shape, known_plan, missing, nowhere}
+use Rattle.asl_shape.specs.Shapes.{call_shape, within, joined, list_shape, skipped, bare, call_args, element_shape, macro_shape, begin}
+use Rattle.word_meanings.specs.Meanings.{item_fault, meaning_of, reading_of, slot_as, unfit}
 use Rattle.asl_words.specs.Resources.{descriptor_parameters, descriptor_body}
 use Rattle.resource_layout.specs.declared.descriptor.Descriptor.{Descriptor}
-use Rattle.asl_shape.specs.AtRaw.{has_arguments_at, template_at, descriptor_at, inside_at, bare_at, listed_at, place_at, shape_at, is_separator_at, run_after_at, operands_at, call_at, arguments_at, arguments_in_at, contents_at, members_at}
-use Rattle.asl_shape.specs.AtRaw.{terms_at, member_at, argument_at, form_at, read_at, is_some, one_at, left_at, is_listed_at, byte_slot_at, item_at, meaning_at, element_at, macro_at, is_field_list_at, elements_at, cases_at, default_after_at}
-use Rattle.asl_parser.specs.Views.{written_number, written_text, written_item, written_apply, written_list, written_comma, written_semicolon, written_empty}
-use Rattle.asl_shape.proofs.Terms.{term_rules, omitted_term, nothing_more}
-use Rattle.asl_shape.proofs.Leaves.{place_rules}
-use Rattle.asl_shape.proofs.Last.{last_join, with_join}
-use Rattle.asl_shape.proofs.Braces.{given_some, from_item}
-use Rattle.asl_shape.proofs.ItemLaws.{inside_written}
+use Rattle.asl_terms.specs.AtRaw.{inside_at, listed_at, place_at}
+use Rattle.asl_shape.specs.AtRaw.{has_arguments_at, template_at, descriptor_at, bare_at, shape_at, is_separator_at, run_after_at}
+use Rattle.asl_shape.specs.AtRaw.{operands_at, call_at, arguments_at, arguments_in_at, contents_at, members_at}
+use Rattle.asl_terms.specs.AtRaw.{is_some}
+use Rattle.asl_shape.specs.AtRaw.{terms_at, member_at, argument_at, form_at, read_at, one_at, is_listed_at, byte_slot_at, item_at}
+use Rattle.asl_shape.specs.AtRaw.{meaning_at, element_at, macro_at, is_field_list_at, elements_at, cases_at, default_after_at}
+use Rattle.asl_syntax.specs.Views.{written_number, written_text, written_item, written_apply, written_list, written_comma, written_semicolon, written_empty}
+use Rattle.asl_terms.proofs.Terms.{omitted_term, nothing_more}
+use Rattle.asl_terms.proofs.Leaves.{place_rules}
+use Rattle.asl_terms.proofs.Last.{last_join, with_join}
+use Rattle.asl_terms.proofs.Bracketed.{given_some, from_item, inside_written}
+use Rattle.asl_terms.proofs.Joins.{join_assoc, from_none, nothing_behind}
 
 -- ---- errors in order
 
@@ -133,21 +141,6 @@ read_there result s inside outer place r x before all e f h =
 pub ruleset bare_rules = (bare_number, bare_text, bare_apply, bare_list, bare_comma, bare_semicolon, bare_empty, nothing_more, omitted_term, place_rules)
 
 -- ---- plans in order
-
-join_end : (ps : Plans) → join ps no_plans ≡ ps
-join_end no_plans = refl
-join_end (plan place p ps) = ap (plan place p) (join_end ps)
-
-pub join_assoc : (ps qs rs : Plans) → join (join ps qs) rs ≡ join ps (join qs rs)
-join_assoc no_plans qs rs = refl
-join_assoc (plan place p ps) qs rs = ap (plan place p) (join_assoc ps qs rs)
-
-pub from_none : (ps : Plans) → join (plans_of []) ps ≡ ps
-unfolding plans_of
-from_none ps = refl
-
-pub nothing_behind : (ps : Plans) → join ps no_plans ≡ ps
-nothing_behind ps = join_end ps
 
 pub call_is : (inside : Around) (args : Option (List Raw)) → call_at inside args ≡ operands_at slot.Expression inside (inside_at args)
 unfolding call_at operands_at writtens
@@ -459,14 +452,6 @@ pub argument_end : (place : Place) (inside : Around) (rs : List Raw) → argumen
 unfolding arguments_in_at writtens
 argument_end place inside [] = refl
 argument_end place inside (r ∷ rs) = refl
-
-pub nothing_missing : (q : Parameter) (place : Place) → q.further ≡ true → missing place q ≡ no_plans
-nothing_missing q place e = ap (λ b. if b then no_plans else plan place omitted no_plans) e
-
-pub one_missing : (q : Parameter) (place : Place) → q.further ≡ false → missing place q ≡ left_at place
-one_missing q place e = ap (λ b. if b then no_plans else plan place omitted no_plans) e
-
-pub ruleset missing_rules = (nothing_missing, one_missing, nothing_behind, omitted_term)
 
 pub left_faults : (q : Parameter) (place : Place) (inside : Around) (o : Option Raw) → o ≡ None → (argument_at q place inside o).faults ≡ []
 unfolding argument_at

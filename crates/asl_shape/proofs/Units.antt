@@ -3,27 +3,29 @@ use Rattle.std.proofs.Common.{Result, Ok, Err, IfOk, IfErr, ◌≡◌, ℕ, ◌+
 use Rattle.std.proofs.lemmas.List.{append-nil, take_more, take_all, drop_more, drop_all}
 use Rattle.iasl_messages.specs.declared.place.Place.{Place}
 use Rattle.iasl_messages.specs.declared.message.Stage.{Stage}
-use Rattle.asl_parser.specs.declared.raw.Infix.{Infix}
-use Rattle.asl_parser.specs.declared.raw.Raw.{Raw}
-use Rattle.asl_parser.specs.declared.raw.Raw.TheVariants as raw
+use Rattle.asl_syntax.specs.declared.raw.Infix.{Infix}
+use Rattle.asl_syntax.specs.declared.raw.Raw.{Raw}
+use Rattle.asl_syntax.specs.declared.raw.Raw.TheVariants as raw
 use Rattle.asl_tree.specs.declared.program.Block.{Block}
 use Rattle.asl_tree.specs.declared.term.Node.{Node}
-use Rattle.asl_parser.specs.Written as piece
-use Rattle.asl_parser.specs.Written.{Written, none, more, written, writtens, written_in}
+use Rattle.asl_syntax.specs.Written as piece
+use Rattle.asl_syntax.specs.Written.{Written, none, more, written, writtens, written_in}
 use Rattle.acpi_values.specs.Revisions.{width_of}
 use Rattle.acpi_values.specs.declared.width.Width.TheVariants.{W64}
 use Rattle.iasl_messages.specs.declared.message.Message.{Message}
 use Rattle.asl_shape.specs.Around.{outside}
-use Rattle.asl_shape.specs.Plans.{Plans, plan_of, plans_of, plan_at, text_of, join}
+use Rattle.asl_terms.specs.Plans.{Plans, plan_of, plans_of, plan_at, text_of, join}
 use Rattle.asl_words.specs.Operators.{block_parameters}
-use Rattle.asl_shape.specs.Shapes.{Shaped, fault_at, takes, inside_of, is_given, terms, place_of}
-use Rattle.asl_shape.specs.AtRaw.{takes_at, inside_at, is_some, terms_at, arguments_at, place_at, Refuses}
+use Rattle.asl_terms.specs.Terms.{Shaped, fault_at, inside_of, is_given}
+use Rattle.asl_shape.specs.Shapes.{takes, terms}
+use Rattle.asl_terms.specs.AtRaw.{inside_at, is_some, place_at}
+use Rattle.asl_shape.specs.AtRaw.{takes_at, terms_at, arguments_at, Refuses}
 use Rattle.asl_shape.specs.Forms.{revision_in, start, is_block_word, is_block, block_fault, errors_inside, block_errors, no_block, errors_of, block_place, args_of, terms_of, IsBlock, errors_at, IsBlockOf, alone, is_block_at, errors_in_block, errors_in_blocks, stray_errors, source_errors, AreBlocksOf, AreRight, AddsBlock, args_in, terms_in, errors_in, block_errors_at}
-use Rattle.asl_shape.proofs.Settled.{at_some, at_none}
-use Rattle.asl_shape.proofs.Braces.{given_some}
-use Rattle.asl_shape.proofs.ItemLaws.{inside_written}
-use Rattle.asl_shape.proofs.Shapes.{arguments_are, from_none, none_left, all_made}
-use Rattle.asl_parser.specs.Views.{written_number, written_text, written_item, written_apply, written_list, written_comma, written_semicolon, written_empty}
+use Rattle.asl_terms.proofs.Settled.{at_some, at_none}
+use Rattle.asl_terms.proofs.Bracketed.{given_some, inside_written}
+use Rattle.asl_terms.proofs.Joins.{from_none}
+use Rattle.asl_shape.proofs.Shapes.{arguments_are, none_left, all_made}
+use Rattle.asl_syntax.specs.Views.{written_number, written_text, written_item, written_apply, written_list, written_comma, written_semicolon, written_empty}
 
 pub text_some : (nodes : List Node) (i : ℕ) (d : Node) → i < length nodes → d ≡ get_or nodes i d → text_of (plan_of d.term) ≡ text_of (plan_at (plans_of nodes) i)
 text_some nodes i d lt e = ap (λ (n : Node). text_of (plan_of n.term)) e ∙ ap text_of (sym (at_some nodes i d lt))

@@ -1,12 +1,12 @@
 -- The same of the tree of the syntax itself.
-use Rattle.std.specs.Prelude.{◌≡◌, ℕ, Bool, true, false, List, [], Option, Some, None}
+use Rattle.std.specs.Prelude.{◌≡◌, ℕ, Bool, false, List, [], Option, Some, None}
 use Rattle.iasl_messages.specs.declared.place.Place.{Place}
 use Rattle.iasl_messages.specs.declared.message.Message.{Message}
 use Rattle.iasl_messages.specs.declared.message.Stage.{Stage}
 use Rattle.iasl_messages.specs.declared.message.Stage.TheVariants as stage
-use Rattle.asl_parser.specs.declared.raw.Raw.{Raw}
+use Rattle.asl_syntax.specs.declared.raw.Raw.{Raw}
 use Rattle.asl_shape.specs.declared.around.Around.{Around}
-use Rattle.asl_shape.specs.Plans.{Plan, omitted, Plans, no_plans, plan}
+use Rattle.asl_terms.specs.Plans.{Plan, omitted, Plans, no_plans, plan}
 use Rattle.asl_tree.specs.declared.term.Op.{Op}
 use Rattle.asl_words.specs.declared.operator.Parameter.{Parameter}
 use Rattle.asl_words.specs.declared.operator.Slot.{Slot}
@@ -16,19 +16,21 @@ use Rattle.asl_words.specs.declared.operator.Body.TheVariants as braces
 use Rattle.resource_layout.specs.declared.descriptor.Descriptor.{Descriptor}
 use Rattle.asl_words.specs.declared.operator.FieldWord.{FieldWord}
 use Rattle.asl_words.specs.declared.operator.TextMacro.{TextMacro}
-use Rattle.asl_words.specs.declared.meaning.Meaning.{Meaning}
-use Rattle.asl_words.specs.declared.meaning.Reading.{Reading}
+use Rattle.word_meanings.specs.declared.meaning.Meaning.{Meaning}
+use Rattle.word_meanings.specs.declared.meaning.Reading.{Reading}
 use Rattle.asl_shape.specs.declared.fields.Due.{Due}
 use Rattle.asl_shape.specs.declared.fields.UnitName.{UnitName}
-use Rattle.asl_parser.specs.Written.{written, writtens, written_in}
-use Rattle.asl_shape.specs.Shapes.{missing, Shaped, fine, takes, none_empty, has_arguments, is_comma, due_after, is_text, bare, run_after}
+use Rattle.asl_syntax.specs.Written.{written, writtens, written_in}
+use Rattle.asl_terms.specs.Terms.{missing, Shaped, fine}
+use Rattle.asl_shape.specs.Shapes.{takes, none_empty, has_arguments, is_comma, due_after, is_text, bare, run_after}
 use Rattle.asl_shape.specs.Shapes.{is_call, is_separator, is_listed, byte_slot, skipped, joined, operands, call_args, arguments}
-use Rattle.asl_shape.specs.Shapes.{arguments_in, contents, members, terms, read_shape, form_shape, within, place_of, nowhere, checked}
-use Rattle.asl_shape.specs.Shapes.{item_shape, listed_shape, types_shape, is_type, are_types, is_type_or_list, are_all_types, meaning_in}
+use Rattle.asl_terms.specs.Terms.{nowhere, checked}
+use Rattle.asl_shape.specs.Shapes.{arguments_in, contents, members, terms, read_shape, form_shape, within, item_shape, meaning_in}
 use Rattle.asl_shape.specs.Shapes.{goes_on, is_field_list, field_slot, unit_behind, field_part, due_behind, element_shape, first_place}
 use Rattle.asl_shape.specs.Shapes.{inner_place, element_place, macro_shape, template_shape, descriptor_shape, elements, begin, cases}
 use Rattle.asl_shape.specs.Shapes.{default_after}
-use Rattle.asl_words.specs.Meanings.{item_fault, meaning_of, reading_of, slot_as, is_whole}
+use Rattle.asl_terms.specs.AtRaw.{inside_at, place_at, is_some}
+use Rattle.word_meanings.specs.Meanings.{item_fault, meaning_of, reading_of, slot_as, is_whole}
 use Rattle.asl_words.specs.Operators.{parameters_as, body_as, element_parameters, macro_parameters}
 use Rattle.asl_words.specs.Resources.{descriptor_parameters, descriptor_body}
 
@@ -44,15 +46,8 @@ is_call_at raws = is_call (writtens raws)
 unfoldable pub has_arguments_at : Meaning → List Raw → Bool
 has_arguments_at meaning raws = has_arguments meaning (writtens raws)
 
-abbrev pub inside_at : Option (List Raw) → List Raw
-inside_at None = []
-inside_at (Some raws) = raws
-
 unfoldable pub bare_at : Slot → Around → Raw → Shaped Plan
 bare_at s inside raw = bare s inside (written raw)
-
-unfoldable pub place_at : Place → Raw → Place
-place_at place raw = place_of place (written raw)
 
 -- a part of a source where it is read so
 abbrev pub shape_at : Slot → Around → Raw → Shaped Plan
@@ -119,15 +114,8 @@ read_at s place w reading inside args body = read_shape s place w reading (call_
     (λ m. macro_at m place inside args) (template_at place inside body) (λ d. descriptor_at d place inside args body)
     (λ o. form_at s o place inside args body)
 
-abbrev pub is_some : Option (List Raw) → Bool
-is_some None = false
-is_some (Some raws) = true
-
 abbrev pub one_at : Place → Raw → Plan → Plans
 one_at place raw p = plan (place_at place raw) p no_plans
-
-abbrev pub left_at : Place → Plans
-left_at place = plan place omitted no_plans
 
 unfoldable pub is_comma_at : Raw → Bool
 is_comma_at raw = is_comma (written raw)
@@ -169,25 +157,6 @@ argument_at q place inside (Some raw) = joined (place_at place raw) (shape_at (s
 abbrev pub Refuses : Stage → List Message → Type 0
 Refuses (stage.Refused messages) errors = (messages ≡ errors) × (errors ≡ [] → ⊥)
 Refuses stage.Memory errors = Unit {0}
-
--- a list as an argument
-unfoldable pub listed_at : Slot → Place → List Raw → Shaped Plan
-listed_at s place raws = listed_shape s place (writtens raws)
-
-unfoldable pub types_at : ℕ → Place → List Raw → Shaped Plan
-types_at most place raws = types_shape most place (writtens raws)
-
-unfoldable pub is_type_at : Raw → Bool
-is_type_at raw = is_type (written raw)
-
-unfoldable pub are_types_at : List Raw → Bool
-are_types_at raws = are_types (writtens raws)
-
-unfoldable pub is_type_or_list_at : Raw → Bool
-is_type_or_list_at raw = is_type_or_list (written raw)
-
-unfoldable pub are_all_types_at : List Raw → Bool
-are_all_types_at raws = are_all_types (writtens raws)
 
 -- ---- the list of a field
 

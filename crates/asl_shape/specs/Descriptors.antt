@@ -1,21 +1,20 @@
 -- The bytes of a resource descriptor by what its arguments and its list come to, and the descriptors in them that have names.
 use Rattle.std.specs.Prelude.{ℕ, ◌+◌, Bool, true, false, if◌then◌else◌, List, [], ◌∷◌, ◌++◌, length, map, Option, Some, None}
 use Rattle.acpi_values.specs.Paths.{NameSeg}
-use Rattle.acpi_state.specs.Outcomes.{choose}
 use Rattle.asl_tree.specs.Names.{single_segment}
 use Rattle.asl_tree.specs.declared.term.NamedDescriptor.{NamedDescriptor}
 use Rattle.iasl_messages.specs.declared.place.Place.{Place}
 use Rattle.resource_layout.specs.declared.descriptor.Descriptor.{Descriptor}
 use Rattle.resource_layout.specs.declared.descriptor.Giver.{Giver}
 use Rattle.resource_layout.specs.declared.descriptor.Giver.TheVariants as g
-use Rattle.resource_layout.specs.declared.descriptor.Kind.{Kind}
 use Rattle.resource_layout.specs.declared.descriptor.Field.{Field}
 use Rattle.resource_layout.specs.Layout.{row_of, fields_of}
 use Rattle.resource_macros.specs.declared.node.Node.{Node}
 use Rattle.resource_macros.specs.declared.node.Term.{Term}
 use Rattle.resource_macros.specs.declared.node.Term as R
 use Rattle.resource_macros.specs.Resources.{bytes_in, has_room}
-use Rattle.asl_shape.specs.Plans.{Plan, an_integer, a_text, a_fill, a_name, Plans, no_plans, plan, number_of}
+use Rattle.asl_terms.specs.Plans.{Plan, an_integer, a_text, a_fill, a_name, Plans, no_plans, plan, number_of}
+use Rattle.asl_terms.specs.Plans.{fill_of, named_of}
 
 abbrev pub node : Place → Term → Node
 node place term = record { place = place; term = term }
@@ -54,10 +53,6 @@ is_roomy d args body = has_room (row_of d) (descriptor_arguments d args) (member
 abbrev pub own_bytes : Descriptor → Plans → Plans → List ℕ
 own_bytes d args body = bytes_in (row_of d) (descriptor_arguments d args) (member_nodes body)
 
-abbrev pub fill_of : Plan → List ℕ
-fill_of (a_fill bytes named) = bytes
-fill_of _ = []
-
 -- the bytes of descriptors, one behind the other
 abbrev pub fills_of : Plans → List ℕ
 fills_of no_plans = []
@@ -84,10 +79,6 @@ abbrev pub own_name : Descriptor → List Field → Plans → List NamedDescript
 own_name d [] ps = []
 own_name d (field ∷ fields) no_plans = []
 own_name d (field ∷ fields) (plan place p ps) = if is_name field.giver then named_as d place (segment_of p) else own_name d fields ps
-
-abbrev pub named_of : Plan → List NamedDescriptor
-named_of (a_fill bytes named) = named
-named_of _ = []
 
 -- so many bytes further behind
 abbrev pub moved : ℕ → NamedDescriptor → NamedDescriptor

@@ -3,17 +3,19 @@ use Rattle.std.specs.Prelude.{◌≡◌, ℕ, ◌%◌, Bool, not, if◌then◌el
 use Rattle.std.specs.Str.{bytes_eq}
 use Rattle.iasl_messages.specs.declared.place.Place.{Place}
 use Rattle.iasl_messages.specs.declared.message.Message.{Message}
-use Rattle.asl_parser.specs.declared.raw.Raw.{Raw}
+use Rattle.asl_syntax.specs.declared.raw.Raw.{Raw}
 use Rattle.asl_tree.specs.declared.program.Block.{Block}
 use Rattle.asl_tree.specs.declared.program.Program.{Program}
-use Rattle.asl_parser.specs.Written.{Written, Writtens, WrittenGroup, item, none, more, written, writtens}
+use Rattle.asl_syntax.specs.Written.{Written, Writtens, WrittenGroup, item, none, more, written, writtens}
 use Rattle.acpi_values.specs.Revisions.{width_of}
 use Rattle.acpi_values.specs.declared.width.Width.TheVariants.{W64}
 use Rattle.asl_shape.specs.Around.{outside}
-use Rattle.asl_shape.specs.Plans.{Plans, no_plans, plans_of, plan_at, text_of, number_of}
+use Rattle.asl_terms.specs.Plans.{Plans, no_plans, plans_of, plan_at, text_of, number_of}
 use Rattle.asl_words.specs.Operators.{block_parameters}
-use Rattle.asl_shape.specs.Shapes.{Shaped, fault_at, place_of, takes, inside_of, is_given, arguments, terms}
-use Rattle.asl_shape.specs.AtRaw.{arguments_in_at, terms_at, takes_at, inside_at, is_some, place_at}
+use Rattle.asl_terms.specs.Terms.{Shaped, fault_at, place_of, inside_of, is_given}
+use Rattle.asl_shape.specs.Shapes.{takes, arguments, terms}
+use Rattle.asl_terms.specs.AtRaw.{inside_at, is_some, place_at}
+use Rattle.asl_shape.specs.AtRaw.{arguments_in_at, terms_at, takes_at}
 
 -- the begin of the source
 abbrev pub start : Place

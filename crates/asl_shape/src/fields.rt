@@ -2,22 +2,22 @@
 ghost use Rattle.std.specs.Prelude.{◌≡◌, ◌++◌, OnOk, IfOk, drop};
 ghost use Rattle.asl_shape.specs.Shapes as spec;
 ghost use Rattle.asl_shape.specs.AtRaw as at;
-ghost use Rattle.asl_shape.specs.Plans.{plan_of, plans_of, join};
-ghost use Rattle.asl_words.specs.Meanings.{slot_as};
+ghost use Rattle.asl_terms.specs.Plans.{plan_of, plans_of, join};
+ghost use Rattle.word_meanings.specs.Meanings.{slot_as};
 
-use crate::item::{inside_of, is_given};
-use crate::leaf::place_in;
 use crate::lists::{is_comma, is_separator};
-use crate::nodes::push;
-use crate::work::{NOWHERE, Work, tell};
-use asl_parser::{NodeForm, SyntaxNode};
+use asl_syntax::{NodeForm, SyntaxNode};
+use asl_terms::brackets::{inside_of, is_given};
+use asl_terms::leaf::place_in;
+use asl_terms::nodes::push;
+use asl_terms::work::{NOWHERE, Work, tell};
 use asl_tree::path::{NameSeg, Path};
 use asl_tree::term::{Node, Term};
-use asl_words::meaning::{Meaning, is_connection, is_whole, meaning_of, slot_as};
 use asl_words::operator::Slot;
 use iasl_messages::number::WRONG_ARGUMENT_FORM;
 use iasl_messages::place::Place;
 use std::alloc::{AllocError, Global};
+use word_meanings::meaning::{Meaning, is_connection, is_whole, meaning_of, slot_as};
 
 /// The name of a unit, where it stands.
 #[derive(Clone, Copy)]
@@ -171,7 +171,7 @@ fn named_by(place: Place, path: &Path) -> Option<UnitName>
 }
 
 /// The unit that a name begins.
-#[tactic(auto, unfolding(crate::specs::Plans::plan_of))]
+#[tactic(auto, unfolding(asl_terms::specs::Plans::plan_of))]
 pub fn named_unit(place: Place, term: &Term) -> Option<UnitName>
     ensures { result ≡ spec.named_unit place (plan_of term.now) }
 {
@@ -259,7 +259,7 @@ pub fn begin(
 }
 
 /// Adds a unit at its name, or a gap at this place.
-#[tactic(auto, unfolding(crate::specs::Plans::plan_of))]
+#[tactic(auto, unfolding(asl_terms::specs::Plans::plan_of))]
 pub fn add_unit(
     nodes: &mut Vec<Node>,
     unit: Option<UnitName>,

@@ -1,18 +1,18 @@
 //! What is wrong with an item of a source.
 ghost use Rattle.std.specs.Prelude.{◌≡◌, ◌∷◌, [], true, false, Some, None};
 ghost use Rattle.asl_shape.specs.Shapes as spec;
-ghost use Rattle.asl_words.specs.Meanings as words;
+ghost use Rattle.word_meanings.specs.Meanings as words;
 ghost use Rattle.asl_shape.specs.AtRaw as at;
-ghost use Rattle.asl_parser.specs.Written.{written, writtens, written_in};
+ghost use Rattle.asl_syntax.specs.Written.{written, writtens, written_in};
 
 use crate::around::Around;
-use asl_parser::{NodeForm, SyntaxNode, SyntaxNodes};
-use asl_words::meaning::{Meaning, is_same, is_unknown, may_be, may_end, wants_braces};
+use asl_syntax::{NodeForm, SyntaxNode, SyntaxNodes};
 use asl_words::operator::{Parameter, Slot};
 use asl_words::parameters::{element_parameters, macro_parameters, parameters_of};
 use asl_words::paths::parts;
 use asl_words::resources::descriptor_parameters;
 use iasl_messages::number::{NOT_ALLOWED_HERE, UNKNOWN_OPERATOR, WRONG_ARGUMENT_COUNT, WRONG_BODY};
+use word_meanings::meaning::{Meaning, is_same, is_unknown, may_be, may_end, wants_braces};
 
 fn is_empty(raw: &SyntaxNode<'_>) -> bool
     ensures { result ≡ spec.is_empty (written raw.now) }
@@ -109,25 +109,4 @@ pub fn item_fault(
         return Some(WRONG_BODY);
     }
     None
-}
-
-/// What stands in brackets.
-#[tactic(auto, using(crate::proofs::ItemLaws::inside_rules))]
-pub fn inside_of<'r, 'a>(raws: &'r Option<SyntaxNodes<'a>>) -> &'r [SyntaxNode<'a>]
-    ensures { result.now ≡ at.inside_at raws.now }
-{
-    match raws {
-        Some(raws) => raws.as_slice(),
-        None => &[],
-    }
-}
-
-/// Whether brackets are there.
-pub fn is_given(raws: &Option<SyntaxNodes<'_>>) -> bool
-    ensures { result ≡ at.is_some raws.now }
-{
-    match raws {
-        Some(_) => true,
-        None => false,
-    }
 }

@@ -5,12 +5,12 @@ ghost use Rattle.asl_shape.specs.Shapes as spec;
 ghost use Rattle.asl_shape.specs.AtRaw as at;
 
 use crate::around::Around;
-use crate::item::is_given;
-use asl_parser::{NodeForm, SyntaxNode};
+use asl_syntax::{NodeForm, SyntaxNode};
+use asl_terms::brackets::is_given;
 use asl_tree::term::{Declaration, Op};
-use asl_words::meaning::{is_default, meaning_of, run_behind_word};
 use asl_words::operator::{Slot, StringForm};
 use asl_words::paths::parts;
+use word_meanings::meaning::{is_default, meaning_of, run_behind_word};
 
 /// What the terms of a form stand in: those of a method inside one.
 pub fn within(op: Op, inside: Around) -> Around

@@ -2,14 +2,14 @@
 ghost use Rattle.std.specs.Prelude.{◌≡◌, ◌+◌, ◌^◌, ◌≤◌, ◌++◌, ◌∷◌, [], true, OnOk, IfOk, IfErr, length, map};
 ghost use Rattle.asl_shape.specs.Descriptors as table;
 ghost use Rattle.asl_shape.specs.Shapes as spec;
-ghost use Rattle.asl_shape.specs.Plans.{plan_of, plans_of};
+ghost use Rattle.asl_terms.specs.Plans.{plan_of, plans_of, fill_of, named_of};
 ghost use Rattle.resource_layout.specs.Layout.{row_of};
 ghost use Rattle.resource_macros.specs.Reading.{IsResource};
 
 use crate::fields::named_unit;
-use crate::macros::buffer;
-use crate::settle::number_in;
-use crate::work::{Work, tell};
+use asl_terms::macros::buffer;
+use asl_terms::settle::number_in;
+use asl_terms::work::{Work, tell};
 use asl_tree::path::NameSeg;
 use asl_tree::term::{NamedDescriptor, Node, Term};
 use asl_words::paths::parts;
@@ -41,7 +41,7 @@ fn push(nodes: &mut Vec<node::Node>, place: Place, term: node::Term) -> Result<(
 }
 
 // Adds what an argument gives.
-#[tactic(auto, unfolding(crate::specs::Plans::plan_of))]
+#[tactic(auto, unfolding(asl_terms::specs::Plans::plan_of))]
 fn add_argument(
     alloc: Global,
     nodes: &mut Vec<node::Node>,
@@ -128,11 +128,11 @@ fn add_names(
 }
 
 // Adds the bytes and the names of a descriptor.
-#[tactic(auto, using(crate::proofs::Descriptors::fill_rules), unfolding(crate::specs::Plans::plan_of))]
+#[tactic(auto, using(crate::proofs::Descriptors::fill_rules), unfolding(asl_terms::specs::Plans::plan_of))]
 fn add_fill(fill: &mut Fill, term: &Term) -> Result<(), AllocError>
-    ensures bytes { OnOk result (fill.new.bytes.items ≡ fill.old.bytes.items ++ table.fill_of (plan_of term.now)) }
+    ensures bytes { OnOk result (fill.new.bytes.items ≡ fill.old.bytes.items ++ fill_of (plan_of term.now)) }
     ensures names { OnOk result (fill.new.named.items ≡ fill.old.named.items ++ map (table.moved (length fill.old.bytes.items))
-        (table.named_of (plan_of term.now))) }
+        (named_of (plan_of term.now))) }
 {
     match term {
         Term::Fill { bytes, named } => {
@@ -218,7 +218,7 @@ fn add_own_name(
 }
 
 // Tells of a descriptor that has no room for what it has.
-#[tactic(auto, using(crate::proofs::Terms::nothing_more))]
+#[tactic(auto, using(asl_terms::proofs::Terms::nothing_more))]
 fn ask_room(alloc: Global, work: &mut Work, has_room: bool, place: Place) -> Result<(), AllocError>
     ensures { OnOk result (work.new.faults.items ≡ work.old.faults.items ++ spec.room_faults has_room place) }
 {
@@ -235,7 +235,7 @@ fn ask_room(alloc: Global, work: &mut Work, has_room: bool, place: Place) -> Res
 ///
 /// # Errors
 /// 6024 is told at a descriptor whose list is too short, or whose length or count does not fit.
-#[tactic(auto, unfolding(crate::specs::Plans::plan_of))]
+#[tactic(auto, unfolding(asl_terms::specs::Plans::plan_of))]
 pub fn describe(
     alloc: Global,
     work: &mut Work,

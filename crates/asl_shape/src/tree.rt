@@ -2,33 +2,34 @@
 //! that is not inlined, so that the usual way has a small frame.
 ghost use Rattle.std.specs.Prelude.{None, Some, ◌≡◌, ◌++◌, ◌==◌, ◌&&◌, [], slice_get, length, nat_eq, OnOk, IfOk, IfErr, true, false};
 ghost use Rattle.asl_shape.specs.Shapes as spec;
+ghost use Rattle.asl_terms.specs.Terms.{one_plan};
 ghost use Rattle.asl_shape.specs.AtRaw as at;
 ghost use Rattle.asl_words.specs.Operators as table;
 ghost use Rattle.asl_words.specs.declared.operator.Slot.TheVariants as slots;
 ghost use Rattle.asl_words.specs.Paths;
-ghost use Rattle.asl_shape.specs.Plans.{plan_of, plans_of, join};
+ghost use Rattle.asl_terms.specs.Plans.{plan_of, plans_of, join};
 
 use crate::around::Around;
-use crate::elements::element_term;
 use crate::fields::{
     BITS, Due, UnitName, add_unit, begin, due_behind, element_place, is_field_list, meaning_in,
     miss_comma, slot_of,
 };
-use crate::formats::count_arguments;
-use crate::item::{inside_of, is_given, item_fault};
-use crate::leaf::{add_list, add_number, add_path, add_text, known_term, place_in};
+use crate::item::item_fault;
 use crate::lists::{
     byte_slot, count_members, default_after, is_listed, is_separator, run_after, within,
 };
-use crate::macros::first_term;
-use crate::nodes::{add_refused, push, take_last};
 use crate::resources;
-use crate::settle::{add_missing, arrange, number_in, settle};
-use crate::symbol::{room_for, symbol_of};
-use crate::work::{NOWHERE, Work, evaluate, is_evaluated, tell};
-use asl_parser::{NodeForm, SyntaxNode, SyntaxNodes, SyntaxText};
+use asl_syntax::{NodeForm, SyntaxNode, SyntaxNodes, SyntaxText};
+use asl_terms::brackets::{inside_of, is_given};
+use asl_terms::elements::element_term;
+use asl_terms::formats::count_arguments;
+use asl_terms::leaf::{add_list, add_number, add_path, add_text, known_term, place_in};
+use asl_terms::macros::first_term;
+use asl_terms::nodes::{add_refused, push, take_last};
+use asl_terms::settle::{add_missing, arrange, number_in, settle};
+use asl_terms::symbol::{room_for, symbol_of};
+use asl_terms::work::{NOWHERE, Work, evaluate, is_evaluated, tell};
 use asl_tree::term::{Node, Op, Term};
-use asl_words::meaning::{Reading, is_whole, meaning_of, reading_of, slot_as, takes_role, unfit};
 use asl_words::operator::{Body, FieldWord, Parameter, Slot, TextMacro};
 use asl_words::parameters::{
     body_as, element_parameters, macro_parameters, parameters_as, role_of,
@@ -39,6 +40,9 @@ use iasl_messages::number::{VALUE_OUT_OF_RANGE, WRONG_ARGUMENT_FORM};
 use iasl_messages::place::Place;
 use resource_layout::descriptor::Descriptor;
 use std::alloc::{AllocError, Global};
+use word_meanings::meaning::{
+    Reading, is_whole, meaning_of, reading_of, slot_as, takes_role, unfit,
+};
 
 // A part where it is read so, but for the range of a constant: a node behind the others, at its place, or at this one where it has none.
 #[cycle(shape)]
@@ -178,7 +182,7 @@ fn add_item(
     ensures faults { OnOk result
         (work.new.faults.items ≡ work.old.faults.items ++ (at.item_at slot.now inside.now place.now word.now args.now body.now).faults) }
     ensures made { OnOk result (plans_of nodes.new.items ≡ join (plans_of nodes.old.items)
-        (spec.one_plan place.now (at.item_at slot.now inside.now place.now word.now args.now body.now).made)) }
+        (one_plan place.now (at.item_at slot.now inside.now place.now word.now args.now body.now).made)) }
 {
     let meaning = meaning_of(word.as_bytes(), is_given(body));
     if let Some(fault) = item_fault(*slot, *inside, meaning, inside_of(args), is_given(body)) {
@@ -216,7 +220,7 @@ fn add_reading(
     ensures faults { OnOk result (work.new.faults.items ≡ work.old.faults.items
         ++ (at.read_at slot.now place.now word.now reading inside.now args.now body.now).faults) }
     ensures made { OnOk result (plans_of nodes.new.items ≡ join (plans_of nodes.old.items)
-        (spec.one_plan place.now (at.read_at slot.now place.now word.now reading inside.now args.now body.now).made)) }
+        (one_plan place.now (at.read_at slot.now place.now word.now reading inside.now args.now body.now).made)) }
 {
     match reading {
         Reading::Wrong => add_refused(alloc, work, nodes, unfit(*slot), *place),
@@ -261,7 +265,7 @@ fn add_call(
     ensures faults { OnOk result (work.new.faults.items ≡ work.old.faults.items
         ++ (spec.call_shape place.now (Paths.path_of word.now) (at.call_at inside.now args.now)).faults) }
     ensures made { OnOk result (plans_of nodes.new.items ≡ join (plans_of nodes.old.items)
-        (spec.one_plan place.now (spec.call_shape place.now (Paths.path_of word.now) (at.call_at inside.now args.now)).made)) }
+        (one_plan place.now (spec.call_shape place.now (Paths.path_of word.now) (at.call_at inside.now args.now)).made)) }
 {
     let Some(path) = path_of(alloc, word.as_bytes())? else {
         return add_refused(alloc, work, nodes, VALUE_OUT_OF_RANGE, *place);
@@ -287,7 +291,7 @@ fn add_element(
     ensures faults { OnOk result
         (work.new.faults.items ≡ work.old.faults.items ++ (at.element_at word place.now inside.now args.now).faults) }
     ensures made { OnOk result (plans_of nodes.new.items ≡ join (plans_of nodes.old.items)
-        (spec.one_plan place.now (at.element_at word place.now inside.now args.now).made)) }
+        (one_plan place.now (at.element_at word place.now inside.now args.now).made)) }
 {
     let parameters = element_parameters(word);
     let args = inside_of(args);
@@ -312,7 +316,7 @@ fn add_macro(
 ) -> Result<(), AllocError>
     ensures faults { OnOk result (work.new.faults.items ≡ work.old.faults.items ++ (at.macro_at of place.now inside.now args.now).faults) }
     ensures made { OnOk result (plans_of nodes.new.items ≡ join (plans_of nodes.old.items)
-        (spec.one_plan place.now (at.macro_at of place.now inside.now args.now).made)) }
+        (one_plan place.now (at.macro_at of place.now inside.now args.now).made)) }
 {
     let parameters = macro_parameters(of);
     let args = inside_of(args);
@@ -335,7 +339,7 @@ fn add_template(
 ) -> Result<(), AllocError>
     ensures faults { OnOk result (work.new.faults.items ≡ work.old.faults.items ++ (at.template_at place.now inside.now body.now).faults) }
     ensures made { OnOk result (plans_of nodes.new.items ≡ join (plans_of nodes.old.items)
-        (spec.one_plan place.now (at.template_at place.now inside.now body.now).made)) }
+        (one_plan place.now (at.template_at place.now inside.now body.now).made)) }
 {
     let braces = Body::Descriptors { chosen: false };
     let mut members = Vec::new(alloc);
@@ -361,7 +365,7 @@ fn add_descriptor(
     ensures faults { OnOk result
         (work.new.faults.items ≡ work.old.faults.items ++ (at.descriptor_at of place.now inside.now args.now body.now).faults) }
     ensures made { OnOk result (plans_of nodes.new.items ≡ join (plans_of nodes.old.items)
-        (spec.one_plan place.now (at.descriptor_at of place.now inside.now args.now body.now).made)) }
+        (one_plan place.now (at.descriptor_at of place.now inside.now args.now body.now).made)) }
 {
     let parameters = descriptor_parameters(of);
     let args = inside_of(args);
@@ -390,7 +394,7 @@ fn add_symbol(
     ensures faults { OnOk result (work.new.faults.items ≡ work.old.faults.items ++ (spec.symbol_shape inside.now.width slot.now place.now op
         (at.arguments_in_at (table.parameters_of op) place.now inside.now args.now)).faults) }
     ensures made { OnOk result (plans_of nodes.new.items ≡ join (plans_of nodes.old.items)
-        (spec.one_plan place.now (spec.symbol_shape inside.now.width slot.now place.now op
+        (one_plan place.now (spec.symbol_shape inside.now.width slot.now place.now op
         (at.arguments_in_at (table.parameters_of op) place.now inside.now args.now)).made)) }
 {
     if takes_role(*slot, role_of(op)) {
@@ -428,7 +432,7 @@ fn add_form(
         (at.arguments_in_at (table.parameters_as op slot.now) place.now inside.now args.now)
         (at.contents_at (table.body_as op slot.now) (spec.within op inside.now) place.now body.now)).faults) }
     ensures made { OnOk result (plans_of nodes.new.items ≡ join (plans_of nodes.old.items)
-        (spec.one_plan place.now (spec.form_shape inside.now.width op place.now
+        (one_plan place.now (spec.form_shape inside.now.width op place.now
         (at.arguments_in_at (table.parameters_as op slot.now) place.now inside.now args.now)
         (at.contents_at (table.body_as op slot.now) (spec.within op inside.now) place.now body.now)).made)) }
 {

@@ -2,17 +2,19 @@
 ghost use Rattle.std.specs.Prelude.{◌≡◌, ◌++◌, ◌∷◌, [], length, true, IfOk, IfErr, OnOk};
 ghost use Rattle.asl_shape.specs.Forms as spec;
 ghost use Rattle.asl_shape.specs.AtRaw as at;
+ghost use Rattle.asl_terms.specs.AtRaw.{inside_at};
 ghost use Rattle.asl_words.specs.Operators as table;
-ghost use Rattle.asl_shape.specs.Plans.{plan_of, plans_of, plan_at, text_of, join};
+ghost use Rattle.asl_terms.specs.Plans.{plan_of, plans_of, plan_at, text_of, join};
 
 use crate::around::outside;
-use crate::item::{inside_of, is_given, takes};
-use crate::leaf::place_in;
-use crate::settle::number_at;
+use crate::item::takes;
 use crate::tree::{arguments, terms};
-use crate::work::Work;
 use acpi_values::width::Width;
-use asl_parser::{NodeForm, RawUnit, SyntaxNode, SyntaxNodes, SyntaxText};
+use asl_syntax::{NodeForm, RawUnit, SyntaxNode, SyntaxNodes, SyntaxText};
+use asl_terms::brackets::{inside_of, is_given};
+use asl_terms::leaf::place_in;
+use asl_terms::settle::number_at;
+use asl_terms::work::Work;
 use asl_tree::program::{Block, Blocks, Program};
 use asl_tree::term::{Node, Term};
 use asl_words::parameters::block_parameters;
@@ -45,7 +47,7 @@ fn refusal(alloc: Global, number: u16, place: Place) -> Stage
     }
 }
 
-#[tactic(auto, unfolding(crate::specs::Plans::plan_of))]
+#[tactic(auto, unfolding(asl_terms::specs::Plans::plan_of))]
 fn text_in(alloc: Global, term: &Term) -> Result<Text, AllocError>
     ensures { IfOk result (λ text. text ≡ text_of (plan_of term.now)) }
 {
@@ -192,8 +194,8 @@ fn block(
     body: &Option<SyntaxNodes<'_>>,
 ) -> Result<Block, Stage>
     ensures formed { IfOk result (λ block. (spec.block_errors_at place args.now body.now ≡ [])
-        × spec.IsBlock place (spec.args_in place (at.inside_at args.now)).made
-        (spec.terms_in (spec.args_in place (at.inside_at args.now)).made (at.inside_at body.now)).made block) }
+        × spec.IsBlock place (spec.args_in place (inside_at args.now)).made
+        (spec.terms_in (spec.args_in place (inside_at args.now)).made (inside_at body.now)).made block) }
     ensures refused { IfErr result (λ stage. at.Refuses stage (spec.block_errors_at place args.now body.now)) }
 {
     let has_arguments = takes(block_parameters(), inside_of(args));

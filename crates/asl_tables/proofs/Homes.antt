@@ -11,10 +11,10 @@ use Rattle.iasl_messages.specs.declared.place.Line.{Line}
 use Rattle.iasl_messages.specs.declared.place.Piece.{Piece}
 use Rattle.iasl_messages.specs.declared.message.Message.{Message}
 use Rattle.asl_lexer.specs.declared.token.Token.{Token}
-use Rattle.asl_parser.specs.declared.raw.Raw.{Raw}
-use Rattle.asl_parser.specs.Place.{first_place, place_behind, place_at}
-use Rattle.asl_parser.specs.Written.{Writtens, item, none, more, written, writtens}
-use Rattle.asl_parser.specs.Within.{IsWithin, AreWithin as PartsWithin}
+use Rattle.asl_syntax.specs.declared.raw.Raw.{Raw}
+use Rattle.asl_syntax.specs.Place.{first_place, place_behind, place_at}
+use Rattle.asl_syntax.specs.Written.{Writtens, item, none, more, written, writtens}
+use Rattle.asl_syntax.specs.Within.{IsWithin, AreWithin as PartsWithin}
 use Rattle.asl_shape.specs.Forms.{source_errors, alone, block_place}
 use Rattle.asl_shape.proofs.Places.{source_errors_within}
 use Rattle.literal_checks.proofs.Places.{literals_within}

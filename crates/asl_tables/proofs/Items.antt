@@ -9,8 +9,8 @@ use Rattle.std.proofs.lemmas.List.{append-nil, reverse-append, take_more, take_a
 use Rattle.iasl_messages.specs.declared.message.Message.{Message}
 use Rattle.iasl_messages.specs.declared.place.Line.{Line}
 use Rattle.iasl_messages.specs.declared.place.Place.{Place}
-use Rattle.asl_parser.specs.declared.raw.Raw.{Raw}
-use Rattle.asl_parser.specs.Written.{writtens}
+use Rattle.asl_syntax.specs.declared.raw.Raw.{Raw}
+use Rattle.asl_syntax.specs.Written.{writtens}
 use Rattle.asl_tree.specs.declared.program.Block.{Block}
 use Rattle.asl_shape.specs.Forms.{errors_at, source_errors, alone, block_place, IsBlockOf, AreBlocksOf, AreRight}
 use Rattle.aml_sizes.specs.TableSizes.{most_table_bytes}

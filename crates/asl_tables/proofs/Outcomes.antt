@@ -7,8 +7,8 @@ use Rattle.asl_lexer.specs.Marks.{tokens_of, Answers}
 use Rattle.iasl_messages.specs.declared.message.Message.{Message}
 use Rattle.iasl_messages.specs.declared.message.Stage.{Stage}
 use Rattle.iasl_messages.specs.declared.message.Stage.TheVariants.{Refused as Refused', Memory as Memory'}
-use Rattle.asl_parser.specs.declared.raw.Raw.{Raw}
-use Rattle.asl_parser.specs.Marks.{marks}
+use Rattle.asl_syntax.specs.declared.raw.Raw.{Raw}
+use Rattle.asl_syntax.specs.Marks.{marks}
 use Rattle.asl_parser.specs.Parse.{outcome, read, stopped, sunk, tall}
 use Rattle.std.proofs.lemmas.List.{length-drop}
 use Rattle.std.specs.Prelude.{IfOk, IfErr}

@@ -6,8 +6,8 @@ use Rattle.std.specs.Prelude.{nat_le, ◌++◌, if◌then◌else◌}
 use Rattle.iasl_messages.specs.declared.message.Message.{Message}
 use Rattle.iasl_messages.specs.declared.place.Line.{Line}
 use Rattle.iasl_messages.specs.declared.place.Place.{Place}
-use Rattle.asl_parser.specs.declared.raw.Raw.{Raw}
-use Rattle.asl_parser.specs.Written.{writtens}
+use Rattle.asl_syntax.specs.declared.raw.Raw.{Raw}
+use Rattle.asl_syntax.specs.Written.{writtens}
 use Rattle.asl_shape.specs.Forms.{errors_at, source_errors, alone, block_place, AreRight}
 use Rattle.asl_shape.proofs.Units.{each_right, right_source}
 use Rattle.aml_sizes.specs.TableSizes.{most_table_bytes}

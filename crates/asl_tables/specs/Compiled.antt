@@ -23,11 +23,11 @@ use Rattle.wrapped_externals.specs.Wraps.{wrapped_where}
 use Rattle.wrapped_externals.specs.Starts.{placed_where}
 use Rattle.asl_prints.specs.Forms.{formed_all}
 use Rattle.hidden_locals.specs.Switches.{without_switches}
-use Rattle.asl_parser.specs.declared.raw.Raw.{Raw}
+use Rattle.asl_syntax.specs.declared.raw.Raw.{Raw}
 use Rattle.asl_parser.specs.Parse.{ParseOutcome, outcome, read, stopped, sunk, tall}
-use Rattle.asl_parser.specs.Written.{writtens}
+use Rattle.asl_syntax.specs.Written.{writtens}
 use Rattle.std.specs.Str.{IsAscii}
-use Rattle.asl_shape.specs.Plans.{Plans, plan_at, text_of}
+use Rattle.asl_terms.specs.Plans.{Plans, plan_at, text_of}
 use Rattle.asl_shape.specs.Forms.{source_errors, alone, block_place, args_of}
 use Rattle.program_shapes.specs.Sources.{source_in, plans_in, terms_in, statements_in, layouts_in, regions_in, types_in, sizes_in}
 use Rattle.program_shapes.specs.Sources.{values_in, locals_in, notes_in, fields_in, width_in, described_in, table_in}

@@ -4,9 +4,9 @@ use Rattle.iasl_messages.specs.declared.place.Line.{Line}
 use Rattle.iasl_messages.specs.declared.message.Stage.{Stage}
 use Rattle.iasl_messages.specs.declared.message.Stage.TheVariants as stage
 use Rattle.asl_lexer.specs.declared.token.Token.{Token}
-use Rattle.asl_parser.specs.declared.raw.Raw.{Raw}
+use Rattle.asl_syntax.specs.declared.raw.Raw.{Raw}
 use Rattle.asl_parser.specs.Parse.{ParseOutcome, outcome, read}
-use Rattle.asl_parser.specs.Written.{writtens}
+use Rattle.asl_syntax.specs.Written.{writtens}
 use Rattle.asl_shape.specs.Forms.{source_errors, errors_at, alone, IsBlockOf}
 use Rattle.program_shapes.specs.Kept.{IsKeptSource, AreKeptAlone}
 use Rattle.block_outcomes.specs.declared.outcome.Compiled.TheVariants.{Refused}

@@ -2,7 +2,7 @@
 use Rattle.std.specs.Prelude.{ℕ, List, []}
 use Rattle.iasl_messages.specs.declared.message.Message.{Message}
 use Rattle.asl_lexer.specs.declared.token.Token.{Token}
-use Rattle.asl_parser.specs.Place.{place_at}
+use Rattle.asl_syntax.specs.Place.{place_at}
 
 -- a message of this number at the token of that number
 abbrev pub at_token : ℕ → List Token → ℕ → Message

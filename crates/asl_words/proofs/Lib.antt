@@ -1,4 +1,3 @@
 mod Tables
 pub mod FormatLaws
 mod PathLaws
-mod Runs

@@ -3,4 +3,3 @@ pub mod Operators
 pub mod Paths
 pub mod Texts
 pub mod Resources
-pub mod Meanings

@@ -1,7 +1,6 @@
 //! The words of the language and what they ask for, in one table (ACPI Specification 6.4, 19.6).
 #![tactic(auto)]
 
-pub mod meaning;
 pub mod operator;
 pub mod parameters;
 pub mod paths;

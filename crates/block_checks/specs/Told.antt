@@ -2,7 +2,7 @@
 use Rattle.std.specs.Prelude.{ℕ, nat_eq, Bool, ◌||◌, if◌then◌else◌, List, [], ◌∷◌, ◌++◌}
 use Rattle.iasl_messages.specs.declared.message.Message.{Message}
 use Rattle.acpi_values.specs.declared.width.Width.{Width}
-use Rattle.asl_shape.specs.Plans.{Plans}
+use Rattle.asl_terms.specs.Plans.{Plans}
 use Rattle.name_notes.specs.Notes.{mentioned_notes}
 use Rattle.descriptor_fields.specs.Declaring.{declaring}
 use Rattle.descriptor_checks.specs.Resolved.{checked_terms, mentions_of, names_of, resolved_terms}

@@ -4,7 +4,7 @@ ghost use Rattle.acpi_values.specs.Paths.{AbsolutePath};
 ghost use Rattle.acpi_values.specs.Revisions.{width_of};
 ghost use Rattle.asl_tree.specs.Tree.{Trees};
 ghost use Rattle.asl_tree.specs.View.{trees_of};
-ghost use Rattle.asl_shape.specs.Plans.{plans_of};
+ghost use Rattle.asl_terms.specs.Plans.{plans_of};
 ghost use Rattle.asl_numbers.specs.Numbers.{numbered_all};
 ghost use Rattle.aml_code.specs.Header.{fields_of};
 ghost use Rattle.iasl_messages.specs.declared.message.Message.{Message};

@@ -4,22 +4,23 @@ use Rattle.std.proofs.lemmas.Bool.Decides.{nat_tests}
 use Rattle.std.proofs.lemmas.List.{length-append, length-drop}
 use Rattle.std.proofs.Math.Seq.{drop-append_seam}
 use Rattle.asl_lexer.specs.declared.token.Token.{Token}
-use Rattle.asl_parser.specs.declared.raw.Raw.{Raw}
-use Rattle.asl_parser.specs.declared.subtree.Subtrees.{Subtrees}
-use Rattle.asl_parser.specs.declared.frame.ParserState.TheVariants as st
-use Rattle.asl_parser.specs.declared.mark.Mark.{Mark}
+use Rattle.asl_syntax.specs.declared.raw.Raw.{Raw}
+use Rattle.asl_syntax.specs.declared.subtree.Subtrees.{Subtrees}
+use Rattle.asl_parser.specs.declared.state.ParserState.TheVariants as st
+use Rattle.asl_syntax.specs.declared.mark.Mark.{Mark}
 use Rattle.asl_parser.specs.declared.reader.Syntax.TheVariants as x
 use Rattle.asl_parser.specs.Front.{IsLongestFront}
 use Rattle.asl_parser.specs.Depth.{IsShallow, IsLow, OpensTooMuch, IsTooTall, IsTooDeep, opens, grows}
 use Rattle.asl_parser.specs.Grammar.{Spells}
-use Rattle.asl_parser.specs.Grow.{limit, at_depth, or_else, grown_all}
-use Rattle.asl_parser.specs.Machine.{Answer, source, stop, deep, reading, start}
-use Rattle.asl_parser.specs.Marks.{marks}
+use Rattle.asl_syntax.specs.Grow.{limit, at_depth, or_else, grown_all}
+use Rattle.asl_syntax.specs.Frames.{start}
+use Rattle.asl_parser.specs.Machine.{Answer, source, stop, deep, reading}
+use Rattle.asl_syntax.specs.Marks.{marks}
 use Rattle.asl_parser.specs.Parse.{ParseOutcome, read, stopped, sunk, tall, grown_to, outcome_by, outcome}
-use Rattle.asl_parser.specs.Trees.{Trees, nodes_of, first_below}
+use Rattle.asl_syntax.specs.Trees.{Trees, nodes_of, first_below}
 use Rattle.asl_parser.proofs.Complete.{spelled_is_read}
 use Rattle.asl_parser.proofs.Deep.{limited_stop}
-use Rattle.asl_parser.proofs.Heights.{kept_none, tall_node}
+use Rattle.asl_syntax.proofs.Heights.{kept_none, tall_node}
 use Rattle.asl_parser.proofs.Stops.{stops}
 use Rattle.asl_parser.proofs.Told.{is_spelled, is_not_deep, is_fault}
 use Rattle.asl_parser.proofs.Walks.{length-marks}

@@ -13,12 +13,12 @@ use Rattle.asl_lexer.specs.declared.token.Token.{Token}
 use Rattle.asl_lexer.specs.declared.mode.Fault.{Fault}
 use Rattle.asl_lexer.specs.Marks.{tokens_of}
 use Rattle.asl_lexer.proofs.Told.{tokens_are_cut, cut_is_tokens}
-use Rattle.asl_parser.specs.declared.raw.Raw.{Raw}
+use Rattle.asl_syntax.specs.declared.raw.Raw.{Raw}
 use Rattle.asl_parser.specs.Grammar.{Spells}
 use Rattle.asl_parser.specs.Parse.{ParseOutcome, outcome, read, stopped, sunk, tall}
 use Rattle.asl_parser.proofs.Told.{is_spelled, is_not_deep}
 use Rattle.iasl_tool.proofs.Readings.{spelled_is_outcome}
-use Rattle.asl_parser.specs.Written.{writtens}
+use Rattle.asl_syntax.specs.Written.{writtens}
 use Rattle.asl_shape.specs.Forms.{errors_at, alone}
 use Rattle.source_pieces.proofs.Joined.{joined_is_table}
 use Rattle.iasl_backends.specs.Table.{table_bytes}

@@ -9,7 +9,7 @@ use Rattle.iasl_messages.specs.declared.place.Line.{Line}
 use Rattle.iasl_messages.specs.declared.place.Piece.{Piece}
 use Rattle.iasl_messages.specs.declared.message.Message.{Message}
 use Rattle.iasl_backends.specs.declared.asked.Asked.{Asked as Kinds}
-use Rattle.asl_parser.specs.declared.raw.Raw.{Raw}
+use Rattle.asl_syntax.specs.declared.raw.Raw.{Raw}
 use Rattle.data_tables.specs.declared.compiled.Compiled.{Compiled as DataTable}
 use Rattle.iasl_options.specs.Task.{Compiles, Generates, settings_in}
 use Rattle.iasl_options.proofs.Tasks.{task_to}

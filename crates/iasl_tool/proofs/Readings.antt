@@ -2,22 +2,23 @@
 use Rattle.std.proofs.Common.{◌≡◌, ℕ, suc, ◌<◌, ◌≤◌, Bool, true, false, List, [], ◌∷◌, length, drop, Option, Some, None, refl, sym, ap, ◌∙◌, arith}
 use Rattle.std.specs.Prelude.{nat_le, if◌then◌else◌}
 use Rattle.asl_lexer.specs.declared.token.Token.{Token}
-use Rattle.asl_parser.specs.declared.raw.Raw.{Raw}
-use Rattle.asl_parser.specs.declared.subtree.Subtrees.{Subtrees}
-use Rattle.asl_parser.specs.declared.frame.Frame.{Frame}
-use Rattle.asl_parser.specs.declared.frame.ParserState.{ParserState}
-use Rattle.asl_parser.specs.declared.frame.ParserState.TheVariants as st
-use Rattle.asl_parser.specs.declared.mark.Mark.{Mark}
+use Rattle.asl_syntax.specs.declared.raw.Raw.{Raw}
+use Rattle.asl_syntax.specs.declared.subtree.Subtrees.{Subtrees}
+use Rattle.asl_syntax.specs.declared.frame.Frame.{Frame}
+use Rattle.asl_parser.specs.declared.state.ParserState.{ParserState}
+use Rattle.asl_parser.specs.declared.state.ParserState.TheVariants as st
+use Rattle.asl_syntax.specs.declared.mark.Mark.{Mark}
 use Rattle.asl_parser.specs.Depth.{IsShallow, IsLow}
 use Rattle.asl_parser.specs.Grammar.{IsSource, Spells}
-use Rattle.asl_parser.specs.Grow.{limit, grown_all, at_depth, or_else}
-use Rattle.asl_parser.specs.Machine.{Answer, Config, source, stop, deep, depth, step, finish, walk, within, run, reading, start}
-use Rattle.asl_parser.specs.Marks.{marks}
+use Rattle.asl_syntax.specs.Grow.{limit, grown_all, at_depth, or_else}
+use Rattle.asl_syntax.specs.Frames.{depth, start}
+use Rattle.asl_parser.specs.Machine.{Answer, Config, source, stop, deep, step, finish, walk, within, run, reading}
+use Rattle.asl_syntax.specs.Marks.{marks}
 use Rattle.asl_parser.specs.Parse.{outcome, outcome_by, grown_to, read}
-use Rattle.asl_parser.specs.Trees.{Trees, raws_of, nodes_of, first_below}
+use Rattle.asl_syntax.specs.Trees.{Trees, raws_of, nodes_of, first_below}
 use Rattle.asl_parser.proofs.Complete.{NotDeep, finish_never, spelled_is_read}
 use Rattle.asl_parser.proofs.Deep.{is_too_deep, limited_source, limited_stop}
-use Rattle.asl_parser.proofs.Heights.{kept_raws, tall_node}
+use Rattle.asl_syntax.proofs.Heights.{kept_raws, tall_node}
 
 -- where a walk ends that goes too deep
 record Sinks (ts rest : List Mark) : Type 0 where

@@ -14,10 +14,10 @@ use Rattle.asl_lexer.specs.declared.mode.Fault.{Fault}
 use Rattle.asl_lexer.specs.Marks.{tokens_of, message_of}
 use Rattle.asl_lexer.specs.Cut.{IsCut}
 use Rattle.asl_lexer.proofs.Told.{tokens_are_cut, cut_is_tokens, fault_is, fault_is_told}
-use Rattle.asl_parser.specs.declared.raw.Raw.{Raw}
-use Rattle.asl_parser.specs.Marks.{marks}
+use Rattle.asl_syntax.specs.declared.raw.Raw.{Raw}
+use Rattle.asl_syntax.specs.Marks.{marks}
 use Rattle.asl_parser.specs.Parse.{ParseOutcome, outcome, sunk, tall}
-use Rattle.asl_parser.specs.Written.{writtens}
+use Rattle.asl_syntax.specs.Written.{writtens}
 use Rattle.asl_shape.specs.Forms.{source_errors, alone, block_place}
 use Rattle.aml_sizes.specs.TableSizes.{most_table_bytes}
 use Rattle.data_tables.specs.Compiling.{Answer as DataAnswer}

@@ -8,7 +8,7 @@ use Rattle.iasl_ports.specs.Delivery.{due_of}
 use Rattle.iasl_runs.specs.Ends.{World, IsQuiet, Ends}
 use Rattle.iasl_messages.specs.declared.place.Piece.{Piece}
 use Rattle.iasl_messages.specs.declared.message.Message.{Message}
-use Rattle.asl_parser.specs.declared.raw.Raw.{Raw}
+use Rattle.asl_syntax.specs.declared.raw.Raw.{Raw}
 use Rattle.iasl_backends.specs.declared.asked.Asked.{Asked as Kinds}
 use Rattle.iasl_backends.specs.declared.backend.Kind.{Kind}
 use Rattle.data_tables.specs.declared.compiled.Compiled.{Compiled as DataTable}

@@ -11,11 +11,11 @@ use Rattle.iasl_messages.specs.Severity.{severity_of}
 use Rattle.asl_preprocess.specs.Preprocess.{Given, preprocessed}
 use Rattle.asl_lexer.specs.declared.token.Token.{Token}
 use Rattle.asl_lexer.specs.Cut.{IsCut}
-use Rattle.asl_parser.specs.declared.raw.Raw.{Raw}
+use Rattle.asl_syntax.specs.declared.raw.Raw.{Raw}
 use Rattle.asl_parser.specs.Depth.{IsShallow, IsLow}
 use Rattle.asl_parser.specs.Grammar.{Spells}
-use Rattle.asl_parser.specs.Grow.{limit}
-use Rattle.asl_parser.specs.Marks.{marks}
+use Rattle.asl_syntax.specs.Grow.{limit}
+use Rattle.asl_syntax.specs.Marks.{marks}
 use Rattle.asl_shape.specs.Forms.{alone}
 use Rattle.iasl_backends.specs.Table.{table_bytes}
 use Rattle.data_tables.specs.declared.compiled.Compiled.{Compiled as DataTable}

@@ -10,13 +10,13 @@ use Rattle.asl_lexer.specs.declared.token.Token.{Token}
 use Rattle.asl_lexer.specs.declared.mode.Fault.{Fault}
 use Rattle.asl_lexer.specs.Marks.{message_of}
 use Rattle.asl_lexer.specs.Cut.{IsCut, HasFault}
-use Rattle.asl_parser.specs.declared.raw.Raw.{Raw}
+use Rattle.asl_syntax.specs.declared.raw.Raw.{Raw}
 use Rattle.asl_parser.specs.Depth.{IsShallow, IsLow, IsTooDeep}
 use Rattle.asl_parser.specs.Front.{IsLongestFront}
 use Rattle.asl_parser.specs.Grammar.{Spells}
-use Rattle.asl_parser.specs.Grow.{limit}
-use Rattle.asl_parser.specs.Marks.{marks}
-use Rattle.asl_parser.specs.Written.{writtens}
+use Rattle.asl_syntax.specs.Grow.{limit}
+use Rattle.asl_syntax.specs.Marks.{marks}
+use Rattle.asl_syntax.specs.Written.{writtens}
 use Rattle.asl_shape.specs.Forms.{source_errors, alone, block_place}
 use Rattle.block_outcomes.specs.declared.outcome.Class.{Class}
 use Rattle.block_outcomes.specs.declared.outcome.Class.TheVariants as class

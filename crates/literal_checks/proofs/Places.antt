@@ -5,13 +5,13 @@ use Rattle.iasl_messages.specs.declared.place.Place.{Place}
 use Rattle.iasl_messages.specs.declared.message.Message.{Message}
 use Rattle.acpi_values.specs.declared.width.Width.{Width}
 use Rattle.acpi_values.specs.declared.width.Width.TheVariants.{W32, W64}
-use Rattle.asl_parser.specs.declared.raw.Raw.{Raw}
-use Rattle.asl_parser.specs.Written.{Written, number as a_number, item, apply, Writtens, none, more, WrittenGroup, absent, given, writtens}
-use Rattle.asl_parser.specs.Within.{IsIn, IsWithin, AreWithin, IsGroupWithin}
+use Rattle.asl_syntax.specs.declared.raw.Raw.{Raw}
+use Rattle.asl_syntax.specs.Written.{Written, number as a_number, item, apply, Writtens, none, more, WrittenGroup, absent, given, writtens}
+use Rattle.asl_syntax.specs.Within.{IsIn, IsWithin, AreWithin, IsGroupWithin}
 use Rattle.asl_words.specs.declared.operator.Parameter.{Parameter}
-use Rattle.asl_words.specs.Meanings.{meaning_of}
-use Rattle.asl_shape.specs.Shapes.{fault_at, is_given}
-use Rattle.asl_shape.specs.Places.{AreTold}
+use Rattle.word_meanings.specs.Meanings.{meaning_of}
+use Rattle.asl_terms.specs.Terms.{fault_at, is_given}
+use Rattle.asl_terms.specs.Places.{AreTold}
 use Rattle.asl_shape.proofs.Places.{as_all}
 use Rattle.literal_checks.specs.Literals.{told_number, is_first_wide, behind_first, parameters_in, holds_wide, unless, told, told_all, told_group, told_braces, told_block, cut_literals, cut_literals_at}
 

@@ -4,18 +4,18 @@ use Rattle.std.proofs.lemmas.List.{drop_all}
 use Rattle.iasl_messages.specs.declared.place.Place.{Place}
 use Rattle.iasl_messages.specs.declared.message.Message.{Message}
 use Rattle.acpi_values.specs.declared.width.Width.TheVariants.{W32, W64}
-use Rattle.asl_parser.specs.declared.raw.Infix.{Infix}
-use Rattle.asl_parser.specs.declared.raw.Raw.{Raw}
-use Rattle.asl_parser.specs.declared.raw.Raw.TheVariants as raw
-use Rattle.asl_parser.specs.Written.{written, writtens, written_in}
-use Rattle.asl_parser.specs.Views.{written_number, written_text, written_item, written_apply, written_list, written_comma, written_semicolon, written_empty}
+use Rattle.asl_syntax.specs.declared.raw.Infix.{Infix}
+use Rattle.asl_syntax.specs.declared.raw.Raw.{Raw}
+use Rattle.asl_syntax.specs.declared.raw.Raw.TheVariants as raw
+use Rattle.asl_syntax.specs.Written.{written, writtens, written_in}
+use Rattle.asl_syntax.specs.Views.{written_number, written_text, written_item, written_apply, written_list, written_comma, written_semicolon, written_empty}
 use Rattle.asl_words.specs.declared.operator.Parameter.{Parameter}
-use Rattle.asl_words.specs.declared.meaning.Meaning.{Meaning}
-use Rattle.asl_words.specs.Meanings.{meaning_of}
-use Rattle.asl_shape.specs.AtRaw.{inside_at, is_some}
-use Rattle.asl_parser.specs.Sizes.{size_at, size_in_at}
-use Rattle.asl_shape.proofs.Braces.{given_some, from_item}
-use Rattle.asl_parser.specs.Falls.{size_item}
+use Rattle.word_meanings.specs.declared.meaning.Meaning.{Meaning}
+use Rattle.word_meanings.specs.Meanings.{meaning_of}
+use Rattle.asl_terms.specs.AtRaw.{inside_at, is_some}
+use Rattle.asl_syntax.specs.Sizes.{size_at, size_in_at}
+use Rattle.asl_terms.proofs.Bracketed.{given_some, from_item}
+use Rattle.asl_syntax.specs.Falls.{size_item}
 use Rattle.literal_checks.specs.Literals.{told_number, told_braces, told_braces_at, is_wide, is_first_wide, behind_first, parameters_in, holds_wide, unless, told, told_all, told_group, told_at, told_in_at, told_item_at, cut_literals_at}
 
 pub nothing_more : (ms : List Message) → ms ++ [] ≡ ms

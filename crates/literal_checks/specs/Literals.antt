@@ -4,19 +4,19 @@ use Rattle.iasl_messages.specs.declared.place.Place.{Place}
 use Rattle.iasl_messages.specs.declared.message.Message.{Message}
 use Rattle.acpi_values.specs.declared.width.Width.{Width}
 use Rattle.acpi_values.specs.declared.width.Width.TheVariants.{W32, W64}
-use Rattle.asl_parser.specs.declared.raw.Raw.{Raw}
-use Rattle.asl_parser.specs.Written.{Written, number as a_number, item, apply, Writtens, none, more, WrittenGroup, absent, given, written}
-use Rattle.asl_parser.specs.Written.{writtens, written_in}
+use Rattle.asl_syntax.specs.declared.raw.Raw.{Raw}
+use Rattle.asl_syntax.specs.Written.{Written, number as a_number, item, apply, Writtens, none, more, WrittenGroup, absent, given, written}
+use Rattle.asl_syntax.specs.Written.{writtens, written_in}
 use Rattle.asl_words.specs.declared.operator.Slot.{Slot}
 use Rattle.asl_words.specs.declared.operator.Slot.TheVariants as slot
 use Rattle.asl_words.specs.declared.operator.Parameter.{Parameter}
 use Rattle.asl_words.specs.declared.operator.Body.{Body}
 use Rattle.asl_words.specs.declared.operator.Body.TheVariants as braces
-use Rattle.asl_words.specs.declared.meaning.Meaning.{Meaning}
-use Rattle.asl_words.specs.declared.meaning.Meaning.TheVariants as is
+use Rattle.word_meanings.specs.declared.meaning.Meaning.{Meaning}
+use Rattle.word_meanings.specs.declared.meaning.Meaning.TheVariants as is
 use Rattle.asl_words.specs.Operators.{parameters_of, body_of}
-use Rattle.asl_words.specs.Meanings.{meaning_of}
-use Rattle.asl_shape.specs.Shapes.{fault_at, is_given}
+use Rattle.word_meanings.specs.Meanings.{meaning_of}
+use Rattle.asl_terms.specs.Terms.{fault_at, is_given}
 
 -- a literal over 2 ^ 32 - 1 is told where it stands
 abbrev pub told_number : Place → ℕ → List Message

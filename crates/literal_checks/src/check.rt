@@ -1,12 +1,11 @@
 //! The literals that 32 bits cannot hold.
 ghost use Rattle.std.specs.Prelude.{◌≡◌, ◌++◌, IfOk, OnOk, [], drop};
-ghost use Rattle.asl_shape.specs.AtRaw.{inside_at, is_some};
+ghost use Rattle.asl_terms.specs.AtRaw.{inside_at, is_some};
 ghost use Rattle.asl_shape.specs.Forms.{alone};
 ghost use Rattle.literal_checks.specs.Literals as spec;
 
 use acpi_values::width::Width;
-use asl_parser::{NodeForm, SyntaxNode, SyntaxNodes};
-use asl_words::meaning::{Meaning, meaning_of};
+use asl_syntax::{NodeForm, SyntaxNode, SyntaxNodes};
 use asl_words::operator::{Body, Parameter, Slot};
 use asl_words::parameters::{body_of, parameters_of};
 use iasl_messages::message::{Message, Messages};
@@ -14,6 +13,7 @@ use iasl_messages::number::CONSTANT_IS_CUT;
 use iasl_messages::place::Place;
 use iasl_ports::list::Text;
 use std::alloc::{AllocError, Global};
+use word_meanings::meaning::{Meaning, meaning_of};
 
 const MOST: u64 = 0xFFFF_FFFF;
 

@@ -1,59 +1,48 @@
+mod many;
 mod of_acpi_names;
 mod of_name_checks;
 mod of_name_entries;
 mod of_name_notes;
 mod of_name_spelling;
+mod words;
 
-use asl_tree::path::{NameSeg, Path, Segs};
-use asl_tree::term::{Declaration, Node, Op, Term};
-use iasl_messages::place::Place;
 use std::alloc::{AllocError, Global};
 
-const PLACE: Place = Place {
-    file: 0,
-    line: 1,
-    column: 1,
-};
-
-fn add(nodes: &mut Vec<Node>, term: Term) -> Result<(), AllocError> {
-    nodes.push(Node {
-        id: 0,
-        place: PLACE,
-        term,
-    })?;
-    Ok(())
+/// What is told of a text.
+#[derive(Clone, Copy)]
+enum Outcome {
+    /// A letter for each mention of a name.
+    Mentions,
+    /// What used names denote.
+    Entries,
+    /// The errors of names and of their kinds.
+    Errors,
+    /// The notes on names.
+    Notes,
+    /// The terms as they are spelled, with short names or not.
+    Spelled { shorten: bool },
 }
 
-fn name(alloc: Global, segment: NameSeg) -> Result<Term, AllocError> {
-    let segs = Segs::one(segment);
-    Ok(Term::Name(Path {
-        root: false,
-        up: 0,
-        segs,
-    }))
+fn told(alloc: Global, outcome: Outcome, text: &str) -> Result<String, AllocError> {
+    match outcome {
+        Outcome::Mentions => of_acpi_names::letters(alloc, text),
+        Outcome::Entries => of_name_entries::entries_told(alloc, text),
+        Outcome::Errors => of_name_checks::errors(alloc, text),
+        Outcome::Notes => of_name_notes::noted(alloc, text),
+        Outcome::Spelled { shorten } => of_name_spelling::spelled_text(alloc, shorten, text),
+    }
 }
 
-// A form with a name before its other arguments.
-fn named_form(
-    alloc: Global,
-    op: Declaration,
-    segment: NameSeg,
-    mut others: Vec<Node>,
-    body: Vec<Node>,
-) -> Result<Term, AllocError> {
-    let mut args = Vec::new(alloc);
-    add(&mut args, name(alloc, segment)?)?;
-    args.append(&mut others)?;
-    Ok(Term::Form {
-        op: Op::Declaration(op),
-        args,
-        body,
-    })
-}
-
-// A letter and three characters of 36.
-fn segment(letter: u8, number: u32) -> NameSeg {
-    let digits = b"0123456789ABCDEFGHIJKLMNOPQRSTUVWXYZ";
-    let at = |n: u32| digits[(n % 36) as usize];
-    [letter, at(number / 1296), at(number / 36), at(number)]
+/// The first row of a table that does not hold, with what is told instead; no text where each row holds. A row is a line
+/// `TEXT => WHAT IS TOLD`; a line without `=>` is a comment.
+fn wrong_row(alloc: Global, outcome: Outcome, table: &str) -> Result<String, AllocError> {
+    for row in table.lines() {
+        if let Some((text, want)) = row.split_once("=>") {
+            let seen = told(alloc, outcome, text.trim())?;
+            if seen.as_str().trim_end() != want.trim() {
+                return Ok(format!(in alloc; "{row}: {seen}")?);
+            }
+        }
+    }
+    Ok(String::new(alloc))
 }

@@ -2,9 +2,10 @@
 use Rattle.std.proofs.Common.{◌≡◌, ℕ, Bool, true, false, [], ◌++◌, Option, Some, None, refl}
 use Rattle.std.specs.Prelude.{if◌then◌else◌}
 use Rattle.iasl_messages.specs.declared.place.Place.{Place}
-use Rattle.asl_parser.specs.Written.{Writtens, WrittenGroup, item, none, more}
+use Rattle.asl_syntax.specs.Written.{Writtens, WrittenGroup, item, none, more}
 use Rattle.asl_words.specs.Operators.{block_parameters}
-use Rattle.asl_shape.specs.Shapes.{takes, inside_of, is_given}
+use Rattle.asl_terms.specs.Terms.{inside_of, is_given}
+use Rattle.asl_shape.specs.Shapes.{takes}
 use Rattle.acpi_values.specs.Revisions.{width_of}
 use Rattle.acpi_values.specs.declared.width.Width.TheVariants.{W64}
 use Rattle.asl_shape.specs.Around.{outside}

@@ -24,23 +24,27 @@ use Rattle.asl_words.specs.declared.operator.Body.TheVariants as braces
 use Rattle.asl_words.specs.declared.operator.Known.{Known}
 use Rattle.asl_words.specs.declared.operator.Known.TheVariants as known
 use Rattle.asl_words.specs.declared.operator.TextMacro.{TextMacro}
-use Rattle.asl_words.specs.declared.meaning.Meaning.{Meaning}
-use Rattle.asl_words.specs.declared.meaning.Meaning.TheVariants as is
-use Rattle.asl_words.specs.declared.meaning.Reading.TheVariants as read
+use Rattle.word_meanings.specs.declared.meaning.Meaning.{Meaning}
+use Rattle.word_meanings.specs.declared.meaning.Meaning.TheVariants as is
+use Rattle.word_meanings.specs.declared.meaning.Reading.TheVariants as read
 use Rattle.asl_words.specs.declared.operator.FieldWord.{FieldWord}
 use Rattle.asl_words.specs.Operators.{parameters_of, parameters_as, body_as, role_of, element_parameters, macro_parameters}
 use Rattle.asl_words.specs.Resources.{descriptor_parameters, descriptor_body}
-use Rattle.asl_words.specs.Meanings.{meaning_of, item_fault, may_be, may_stand, is_of_kind, is_branch_role, is_default, reading_of, run_behind, takes_known, unless_wrong, unfit}
+use Rattle.word_meanings.specs.Meanings.{meaning_of, item_fault, may_be, may_stand, is_of_kind, is_branch_role, is_default, reading_of, run_behind, takes_known, unless_wrong, unfit}
 use Rattle.asl_words.specs.Paths.{path_of}
-use Rattle.asl_parser.specs.Written as piece
-use Rattle.asl_parser.specs.Written.{Written, Writtens, item, apply, listed, comma, semicolon, empty, none, more}
-use Rattle.asl_parser.specs.declared.raw.Infix.{Infix}
+use Rattle.asl_syntax.specs.Written as piece
+use Rattle.asl_syntax.specs.Written.{Written, Writtens, item, apply, listed, comma, semicolon, empty, none, more}
+use Rattle.asl_syntax.specs.declared.raw.Infix.{Infix}
 use Rattle.asl_shape.specs.declared.around.Around.{Around}
-use Rattle.asl_shape.specs.Plans.{Plan, a_form, a_name, a_call, omitted, Plans, no_plans, plan}
-use Rattle.asl_shape.specs.Symbols.{symbol_of}
-use Rattle.asl_shape.specs.Shapes as shapes
-use Rattle.asl_shape.specs.Shapes.{Shaped, fine, refused, nowhere, after, checked, place_of, is_given, is_empty, is_separator, inside_of, has_arguments, skipped, run_after, default_after, is_default_op, is_default_plan, settled, arranged}
-use Rattle.asl_shape.specs.Shapes.{form_shape, known_plan, path_shape, call_shape, read_shape, item_shape, element_shape, macro_shape, template_shape, descriptor_shape, bare, call_args, arguments, arguments_in, contents, terms, within}
+use Rattle.asl_terms.specs.Plans.{Plan, a_form, a_name, a_call, omitted, Plans, no_plans, plan}
+use Rattle.asl_terms.specs.Symbols.{symbol_of}
+use Rattle.asl_terms.specs.Terms as shapes
+use Rattle.asl_terms.specs.Terms.{Shaped, fine, refused, nowhere, after, checked, place_of, is_given, inside_of, is_default_op}
+use Rattle.asl_terms.specs.Terms.{is_default_plan, settled, arranged}
+use Rattle.asl_shape.specs.Shapes.{is_empty, is_separator, has_arguments, skipped, run_after, default_after}
+use Rattle.asl_terms.specs.Terms.{known_plan, path_shape}
+use Rattle.asl_shape.specs.Shapes.{form_shape, call_shape, read_shape, item_shape, element_shape, macro_shape, template_shape}
+use Rattle.asl_shape.specs.Shapes.{descriptor_shape, bare, call_args, arguments, arguments_in, contents, terms, within}
 use Rattle.asl_numbers.specs.Numbers.{numbered, numbered_all}
 use Rattle.program_shapes.proofs.Fits.{Formed, FormedTerms}
 use Rattle.program_shapes.proofs.Plans.{PlanAs, PlansAs, none_as, more_as, form_as, omitted_as}

@@ -13,19 +13,22 @@ use Rattle.asl_words.specs.declared.operator.Slot.TheVariants as slot
 use Rattle.asl_words.specs.declared.operator.StringForm.{StringForm}
 use Rattle.asl_words.specs.declared.operator.Known.TheVariants as known
 use Rattle.asl_words.specs.declared.operator.TextMacro.{TextMacro}
-use Rattle.asl_words.specs.declared.meaning.Meaning.{Meaning}
-use Rattle.asl_words.specs.declared.meaning.Meaning.TheVariants as is
-use Rattle.asl_parser.specs.Written as piece
-use Rattle.asl_parser.specs.Written.{Written, Writtens, WrittenGroup, item, apply, listed, comma, semicolon, empty, none, more, absent, given}
+use Rattle.word_meanings.specs.declared.meaning.Meaning.{Meaning}
+use Rattle.word_meanings.specs.declared.meaning.Meaning.TheVariants as is
+use Rattle.asl_syntax.specs.Written as piece
+use Rattle.asl_syntax.specs.Written.{Written, Writtens, WrittenGroup, item, apply, listed, comma, semicolon, empty, none, more, absent, given}
 use Rattle.asl_words.specs.declared.operator.FieldWord.{FieldWord}
 use Rattle.asl_words.specs.Operators.{parameters_as, body_as, block_parameters, element_parameters, macro_parameters}
 use Rattle.acpi_values.specs.declared.width.Width.{Width}
 use Rattle.asl_shape.specs.declared.around.Around.{Around}
 use Rattle.asl_words.specs.Resources.{descriptor_parameters, descriptor_body}
 use Rattle.asl_words.specs.declared.operator.Body.TheVariants as braces
-use Rattle.asl_shape.specs.Plans.{Plan, a_text, omitted, Plans, no_plans, plan, join, text_of, plan_at}
-use Rattle.asl_shape.specs.Shapes.{Shaped, fine, unformed, nowhere, is_given, is_empty, is_separator, inside_of, has_arguments, takes, left_out, checked, place_of, bare, call_args, arguments, arguments_in, contents, within, form_shape, read_shape, after, element_shape, macro_shape, template_shape, descriptor_shape, meaning_in}
-use Rattle.asl_words.specs.Meanings.{meaning_of, may_end, reading_of, slot_as}
+use Rattle.asl_terms.specs.Plans.{Plan, a_text, omitted, Plans, no_plans, plan, join, text_of, plan_at}
+use Rattle.asl_terms.specs.Terms.{Shaped, fine, unformed, nowhere, is_given, inside_of, checked, place_of, after}
+use Rattle.asl_shape.specs.Shapes.{is_empty, is_separator, has_arguments, takes, left_out, bare, call_args, arguments, arguments_in}
+use Rattle.asl_shape.specs.Shapes.{contents, within, form_shape, read_shape, element_shape, macro_shape, template_shape, descriptor_shape}
+use Rattle.asl_shape.specs.Shapes.{meaning_in}
+use Rattle.word_meanings.specs.Meanings.{meaning_of, may_end, reading_of, slot_as}
 use Rattle.asl_words.specs.Texts.{has_form, is_all_text, is_signature, is_oem_signature}
 use Rattle.program_shapes.proofs.Plans.{are_asked, behind_asked}
 use Rattle.program_shapes.proofs.Words.{both_true}

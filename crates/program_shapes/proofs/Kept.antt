@@ -8,29 +8,29 @@ use Rattle.acpi_values.specs.declared.width.Width.TheVariants.{W64}
 use Rattle.asl_lexer.specs.declared.token.Token.{Token}
 use Rattle.asl_lexer.specs.declared.token.TokenKind.{TokenKind}
 use Rattle.asl_lexer.specs.declared.token.TokenKind.TheVariants as k
-use Rattle.asl_parser.specs.declared.sign.Sign.{Sign}
-use Rattle.asl_parser.specs.declared.mark.Lexeme.{Lexeme}
-use Rattle.asl_parser.specs.declared.mark.Lexeme.TheVariants as l
-use Rattle.asl_parser.specs.declared.mark.Mark.{Mark}
-use Rattle.asl_parser.specs.declared.raw.Raw.{Raw}
-use Rattle.asl_parser.specs.Marks.{marks, lexeme_by, symbol}
-use Rattle.asl_parser.specs.Signs.{SignRow, same, found, signs, sign_of, strength}
-use Rattle.asl_parser.specs.declared.sign.Sign.TheVariants as s
-use Rattle.asl_parser.specs.declared.sign.Strength.{Strength}
-use Rattle.asl_parser.specs.declared.raw.Infix.{Infix}
+use Rattle.asl_syntax.specs.declared.sign.Sign.{Sign}
+use Rattle.asl_syntax.specs.declared.mark.Lexeme.{Lexeme}
+use Rattle.asl_syntax.specs.declared.mark.Lexeme.TheVariants as l
+use Rattle.asl_syntax.specs.declared.mark.Mark.{Mark}
+use Rattle.asl_syntax.specs.declared.raw.Raw.{Raw}
+use Rattle.asl_syntax.specs.Marks.{marks, lexeme_by, symbol}
+use Rattle.asl_syntax.specs.Signs.{SignRow, same, found, signs, sign_of, strength}
+use Rattle.asl_syntax.specs.declared.sign.Sign.TheVariants as s
+use Rattle.asl_syntax.specs.declared.sign.Strength.{Strength}
+use Rattle.asl_syntax.specs.declared.raw.Infix.{Infix}
 use Rattle.iasl_messages.specs.declared.place.Place.{Place}
-use Rattle.asl_parser.specs.Trees as t
-use Rattle.asl_parser.specs.Trees.{Tree, Trees, TreeGroup, none, more, absent, given, raw_of, raws_of, raws_in}
+use Rattle.asl_syntax.specs.Trees as t
+use Rattle.asl_syntax.specs.Trees.{Tree, Trees, TreeGroup, none, more, absent, given, raw_of, raws_of, raws_in}
 use Rattle.asl_parser.specs.Grammar.{Phrase, expression, arguments, body, before, argument, brace_list, members, member, sequence, all, Reads, IsSource, Spells, a_number, a_text, an_item, in_brackets, an_index, a_postfix, a_prefix, an_infix, tighter, no_arguments, some_arguments}
 use Rattle.asl_parser.specs.Grammar.{none_given, last_given, last_left_out, none_before, one_before, one_left_out, an_argument, a_list_argument, empty_list, a_list, no_members, more_members, a_word, an_inner_list, no_body, a_body, an_empty_row, a_comma, a_semicolon, one_more}
 use Rattle.asl_parser.specs.Grammar as g
-use Rattle.asl_parser.specs.Written as piece
-use Rattle.asl_parser.specs.Written.{Written, Writtens, written, writtens, written_in}
+use Rattle.asl_syntax.specs.Written as piece
+use Rattle.asl_syntax.specs.Written.{Written, Writtens, written, writtens, written_in}
 use Rattle.asl_words.specs.Operators.{parameters_of}
-use Rattle.asl_shape.specs.Symbols.{symbol_of}
+use Rattle.asl_terms.specs.Symbols.{symbol_of}
 use Rattle.asl_shape.specs.Shapes.{is_empty, is_separator, takes}
-use Rattle.asl_shape.specs.Shapes as shapes
-use Rattle.asl_parser.specs.Views.{written_number, written_text, written_item, written_apply, written_list, written_comma, written_semicolon, written_empty}
+use Rattle.asl_terms.specs.Terms as shapes
+use Rattle.asl_syntax.specs.Views.{written_number, written_text, written_item, written_apply, written_list, written_comma, written_semicolon, written_empty}
 use Rattle.program_shapes.proofs.Words.{both_true}
 use Rattle.program_shapes.specs.Kept.{IsKept, AreArguments, EachArgument, AreMembers, EachMember, IsKeptSource, AreKeptAlone}
 

@@ -8,9 +8,9 @@ use Rattle.iasl_messages.specs.declared.message.Message.{Message}
 use Rattle.asl_tree.specs.Names.{declared_path}
 use Rattle.asl_tree.specs.Tree.{Trees}
 use Rattle.asl_meaning.specs.Declarations.{nothing_declared}
-use Rattle.asl_parser.specs.Written.{Writtens}
-use Rattle.asl_parser.specs.Within as source
-use Rattle.asl_shape.specs.Places.{AreTold}
+use Rattle.asl_syntax.specs.Written.{Writtens}
+use Rattle.asl_syntax.specs.Within as source
+use Rattle.asl_terms.specs.Places.{AreTold}
 use Rattle.asl_shape.specs.Forms.{terms_of}
 use Rattle.asl_numbers.specs.Numbers.{numbered_all}
 use Rattle.descriptor_fields.specs.Declaring.{declaring}

@@ -33,19 +33,21 @@ use Rattle.asl_words.specs.declared.operator.Role.{Role}
 use Rattle.asl_words.specs.declared.operator.Role.TheVariants as role
 use Rattle.asl_words.specs.declared.operator.Known.{Known}
 use Rattle.asl_words.specs.declared.operator.Known.TheVariants as known
-use Rattle.asl_words.specs.declared.meaning.Meaning.{Meaning}
-use Rattle.asl_words.specs.declared.meaning.Meaning.TheVariants as is
-use Rattle.asl_words.specs.declared.meaning.Reading.TheVariants as read
+use Rattle.word_meanings.specs.declared.meaning.Meaning.{Meaning}
+use Rattle.word_meanings.specs.declared.meaning.Meaning.TheVariants as is
+use Rattle.word_meanings.specs.declared.meaning.Reading.TheVariants as read
 use Rattle.asl_words.specs.declared.operator.FieldWord.{FieldWord}
 use Rattle.asl_words.specs.Paths.{path_of}
 use Rattle.asl_words.specs.Operators.{parameters_of, parameters_as, constant_size, body_of, body_as, role_of, plain_role, data_role, event_role, optional, place, target, expression}
-use Rattle.asl_parser.specs.Written.{Writtens}
+use Rattle.asl_syntax.specs.Written.{Writtens}
 use Rattle.acpi_values.specs.declared.width.Width.{Width}
-use Rattle.asl_shape.specs.Plans.{Plan, an_integer, a_text, a_form, Plans, no_plans, how_many}
-use Rattle.asl_shape.specs.Shapes.{Shaped, fine, refused, unformed, format_faults, number_shape, text_shape, string_shape, listed_shape, types_shape, are_all_types, known_plan, path_shape, call_shape, form_shape, symbol_shape, settled, package_settled, arranged, item_shape, read_shape}
-use Rattle.asl_words.specs.Meanings.{takes_role, takes_known, takes_expression, takes_path, takes_segment, is_value, is_place, item_fault, reading_of, name_reading, unless_wrong, may_be, is_unknown, wants_braces, is_same, takes_field_word, takes_macro, takes_resource, unfit, default_before, takes_branch, is_branch_role, is_of_kind, may_stand}
+use Rattle.asl_terms.specs.Plans.{Plan, an_integer, a_text, a_form, Plans, no_plans, how_many}
+use Rattle.asl_terms.specs.Terms.{Shaped, fine, refused, unformed, format_faults, number_shape, text_shape, string_shape, listed_shape}
+use Rattle.asl_terms.specs.Terms.{types_shape, are_all_types, known_plan, path_shape, settled, package_settled, arranged}
+use Rattle.asl_shape.specs.Shapes.{call_shape, form_shape, symbol_shape, item_shape, read_shape}
+use Rattle.word_meanings.specs.Meanings.{takes_role, takes_known, takes_expression, takes_path, takes_segment, is_value, is_place, item_fault, reading_of, name_reading, unless_wrong, may_be, is_unknown, wants_braces, is_same, takes_field_word, takes_macro, takes_resource, unfit, default_before, takes_branch, is_branch_role, is_of_kind, may_stand}
 use Rattle.asl_words.specs.Texts.{has_form, is_all_text, is_text_byte}
-use Rattle.asl_shape.specs.Shapes as shapes
+use Rattle.asl_terms.specs.Terms as shapes
 use Rattle.program_shapes.proofs.Fits.{IsThere, Fits, IsAtMost, IsElement, IsAttribute, IsConnected, IsFill, Formed, FormedValues}
 use Rattle.program_shapes.proofs.Plains.{plain_made, symbol_made, index_spot, deref_spot, symbol_spot}
 use Rattle.program_shapes.proofs.Forms.{one_of, Two, two, two_of, case_buffer_made, case_package_made, IsPackageOf}

@@ -12,7 +12,7 @@ use Rattle.asl_tree.specs.declared.term.Op.{Op}
 use Rattle.asl_tree.specs.declared.term.Special.TheVariants as Special
 use Rattle.asl_tree.specs.declared.term.Declaration.{Declaration}
 use Rattle.asl_tree.specs.declared.term.Control.{Control}
-use Rattle.asl_parser.specs.declared.raw.Raw.{Raw}
+use Rattle.asl_syntax.specs.declared.raw.Raw.{Raw}
 use Rattle.asl_words.specs.declared.operator.Parameter.{Parameter}
 use Rattle.asl_words.specs.declared.operator.Slot.{Slot}
 use Rattle.asl_words.specs.declared.operator.Slot.TheVariants as slot
@@ -27,11 +27,12 @@ use Rattle.resource_layout.specs.declared.descriptor.Descriptor.{Descriptor}
 use Rattle.resource_layout.specs.declared.descriptor.Field.{Field}
 use Rattle.resource_layout.specs.Layout.{fields_of}
 use Rattle.asl_tree.specs.declared.term.NamedDescriptor.{NamedDescriptor}
-use Rattle.asl_shape.specs.Descriptors.{own_bytes, fill_of, is_name, segment_of, named_as, own_name, named_of, moved, names_from}
-use Rattle.asl_words.specs.declared.meaning.Reading.{Reading}
-use Rattle.asl_words.specs.declared.meaning.Reading.TheVariants as read
-use Rattle.asl_parser.specs.Written as piece
-use Rattle.asl_parser.specs.Written.{Written, Writtens, WrittenGroup, item, apply, listed, comma, semicolon, empty, none, more, absent, given, writtens}
+use Rattle.asl_terms.specs.Plans.{fill_of, named_of}
+use Rattle.asl_shape.specs.Descriptors.{own_bytes, is_name, segment_of, named_as, own_name, moved, names_from}
+use Rattle.word_meanings.specs.declared.meaning.Reading.{Reading}
+use Rattle.word_meanings.specs.declared.meaning.Reading.TheVariants as read
+use Rattle.asl_syntax.specs.Written as piece
+use Rattle.asl_syntax.specs.Written.{Written, Writtens, WrittenGroup, item, apply, listed, comma, semicolon, empty, none, more, absent, given, writtens}
 use Rattle.acpi_state.specs.Outcomes.{choose}
 use Rattle.acpi_values.specs.Paths.{NameSeg}
 use Rattle.asl_tree.specs.Names.{single_segment}
@@ -41,21 +42,31 @@ use Rattle.asl_shape.specs.declared.around.Around.{Around}
 use Rattle.asl_shape.specs.Around.{outside}
 use Rattle.asl_shape.specs.declared.fields.Due.{Due}
 use Rattle.asl_shape.specs.declared.fields.UnitName.{UnitName}
-use Rattle.asl_shape.specs.Plans.{Plan, an_integer, a_text, a_fill, a_name, an_access, omitted, Plans, no_plans, plan, plan_at, join, first_plans, first_alone, number_of, is_omitted, constant_of, plans_of}
+use Rattle.asl_terms.specs.Plans.{Plan, an_integer, a_text, a_fill, a_name, an_access, omitted, Plans, no_plans, plan, plan_at, join, first_plans, first_alone, number_of, is_omitted, constant_of, plans_of}
 use Rattle.asl_words.specs.Paths.{path_of}
 use Rattle.asl_words.specs.declared.operator.FieldWord.{FieldWord}
-use Rattle.asl_words.specs.declared.meaning.Meaning.{Meaning}
+use Rattle.word_meanings.specs.declared.meaning.Meaning.{Meaning}
 use Rattle.asl_words.specs.Operators.{parameters_of, parameters_as, body_as, role_of, element_parameters, macro_parameters}
 use Rattle.asl_words.specs.Resources.{descriptor_parameters, descriptor_body}
-use Rattle.asl_shape.specs.Symbols.{symbol_of}
-use Rattle.asl_shape.specs.Shapes.{Shaped, fine, refused, unformed, one_word, for_settled, nowhere, valued, evaluated, after, checked, is_member, is_given, count, has_arguments, are_all_types, number_shape, string_shape, text_shape, path_shape, call_shape, known_plan, listed_shape, read_shape, item_shape, form_shape, method_flags, one_plan, zero_plan, is_stated, stated_parameters}
-use Rattle.asl_shape.specs.Shapes.{few_elements, settled, within, place_of, left_out, is_separator, is_listed, byte_slot, list_shape, skipped, run_after, bare, operands, call_args, arguments, arguments_in, contents, members, terms, inside_of, is_element, field_flags, field_settled, element_shape, macro_shape, template_shape, descriptor_shape, macro_text, eisa_shape, uuid_shape, buffer_plan}
-use Rattle.asl_shape.specs.Shapes.{meaning_in, is_field_list, begin, field_slot, named_unit, unit_behind, whole_alone, of_bits, field_part, due_behind, elements, is_case_member, case_member, member_count, is_case_package, case_value, is_default_plan, default_last, arranged, cases, default_after, accessed_as, connected_to, element_plan, element_place, first_place, inner_place, begun}
-use Rattle.asl_words.specs.Meanings.{item_fault, meaning_of, reading_of, takes_expression, takes_role, slot_as, unfit, is_whole, is_connection}
+use Rattle.asl_terms.specs.Symbols.{symbol_of}
+use Rattle.asl_terms.specs.Terms.{Shaped, fine, refused, unformed, one_word, for_settled, nowhere, valued, evaluated, after, checked}
+use Rattle.asl_terms.specs.Terms.{is_member, is_given, count, are_all_types, number_shape, string_shape, text_shape, path_shape, known_plan}
+use Rattle.asl_terms.specs.Terms.{listed_shape, method_flags, one_plan, zero_plan, is_stated, stated_parameters}
+use Rattle.asl_shape.specs.Shapes.{has_arguments, call_shape, read_shape, item_shape, form_shape}
+use Rattle.asl_terms.specs.Terms.{few_elements, settled, place_of, inside_of, is_element, field_flags, field_settled, macro_text}
+use Rattle.asl_terms.specs.Terms.{eisa_shape, uuid_shape, buffer_plan}
+use Rattle.asl_shape.specs.Shapes.{within, left_out, is_separator, is_listed, byte_slot, list_shape, skipped, run_after, bare, operands}
+use Rattle.asl_shape.specs.Shapes.{call_args, arguments, arguments_in, contents, members, terms, element_shape, macro_shape, template_shape}
+use Rattle.asl_shape.specs.Shapes.{descriptor_shape}
+use Rattle.asl_terms.specs.Terms.{is_case_member, case_member, member_count, is_case_package, case_value, is_default_plan, default_last}
+use Rattle.asl_terms.specs.Terms.{arranged, accessed_as, connected_to, element_plan}
+use Rattle.asl_shape.specs.Shapes.{meaning_in, is_field_list, begin, field_slot, named_unit, unit_behind, whole_alone, of_bits, field_part}
+use Rattle.asl_shape.specs.Shapes.{due_behind, elements, cases, default_after, element_place, first_place, inner_place, begun}
+use Rattle.word_meanings.specs.Meanings.{item_fault, meaning_of, reading_of, takes_expression, takes_role, slot_as, unfit, is_whole, is_connection}
 use Rattle.asl_words.specs.Texts.{is_all_text, has_form}
 use Rattle.resource_macros.specs.Identifiers.{eisaid_of, uuid_of, utf16_of}
 use Rattle.asl_shape.specs.Forms.{terms_of, IsBlockOf, block_args, revision_in}
-use Rattle.asl_parser.specs.Within.{IsIn, IsWithin, AreWithin, IsGroupWithin}
+use Rattle.asl_syntax.specs.Within.{IsIn, IsWithin, AreWithin, IsGroupWithin}
 use Rattle.descriptor_shapes.specs.Places.{NamesWithin, PlanWithin, PlansWithin}
 
 module _ (files : ℕ) where

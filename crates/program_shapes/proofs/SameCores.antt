@@ -29,8 +29,8 @@ use Rattle.loop_shapes.proofs.Faithful as loops
 use Rattle.loop_shapes.proofs.Names as looped
 use Rattle.switch_checks.proofs.Silent.{have_locals}
 use Rattle.wrapped_externals.proofs.Asked as wrapped
-use Rattle.asl_parser.specs.declared.raw.Raw.{Raw}
-use Rattle.asl_parser.specs.Written.{writtens}
+use Rattle.asl_syntax.specs.declared.raw.Raw.{Raw}
+use Rattle.asl_syntax.specs.Written.{writtens}
 use Rattle.program_shapes.specs.Kept.{IsKeptSource}
 use Rattle.program_shapes.specs.Sources.{plans_in, terms_in, width_in, lowered_in, core_in, described_in, spelled_in, IsRight}
 use Rattle.program_shapes.proofs.Near.{plans_near}

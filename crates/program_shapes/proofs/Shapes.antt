@@ -26,8 +26,8 @@ use Rattle.asl_words.specs.declared.operator.Slot.TheVariants as slot
 use Rattle.asl_words.specs.declared.operator.StringForm.TheVariants as texts
 use Rattle.asl_words.specs.declared.operator.Body.{Body}
 use Rattle.asl_words.specs.declared.operator.Body.TheVariants as braces
-use Rattle.asl_words.specs.declared.meaning.Meaning.{Meaning}
-use Rattle.asl_words.specs.declared.meaning.Meaning.TheVariants as is
+use Rattle.word_meanings.specs.declared.meaning.Meaning.{Meaning}
+use Rattle.word_meanings.specs.declared.meaning.Meaning.TheVariants as is
 use Rattle.asl_words.specs.declared.operator.FieldWord.{FieldWord}
 use Rattle.asl_words.specs.Operators.{parameters_of, parameters_as, body_of, body_as, role_of, element_parameters, macro_parameters}
 use Rattle.asl_words.specs.Resources.{descriptor_parameters, descriptor_body}
@@ -36,15 +36,21 @@ use Rattle.acpi_values.specs.declared.width.Width.{Width}
 use Rattle.asl_shape.specs.declared.around.Around.{Around}
 use Rattle.asl_shape.specs.declared.fields.Due.{Due}
 use Rattle.asl_shape.specs.declared.fields.UnitName.{UnitName}
-use Rattle.asl_parser.specs.Written as piece
-use Rattle.asl_parser.specs.Written.{Written, Writtens, WrittenGroup, item, apply, listed, comma, semicolon, empty, none, more, absent, given}
-use Rattle.asl_shape.specs.Plans.{Plan, omitted, a_name, a_fill, a_unit, a_skip, an_access, Plans, no_plans, plan, plan_at, join, number_of, how_many}
-use Rattle.asl_shape.specs.Shapes.{Shaped, fine, refused, nowhere, is_given, is_empty, is_separator, inside_of, has_arguments, takes, none_empty, is_call, left_out, evaluated, checked, place_of, joined, skipped, list_shape, is_listed, byte_slot, run_after, within, form_shape, bare, operands, call_args, arguments, arguments_in, contents, members}
-use Rattle.asl_shape.specs.Shapes.{terms, read_shape, string_shape, fault_at, element_shape, macro_shape, template_shape, descriptor_shape, meaning_in, is_field_list, begin, field_slot, named_unit, unit_behind, of_bits, field_part, due_behind, elements, arranged, cases, default_after, accessed_as, connected_to, element_plan, element_place, begun}
-use Rattle.asl_words.specs.Meanings.{meaning_of, may_end, may_be, is_branch_role, reading_of, slot_as, is_word_of, is_whole, is_long_attribute}
-use Rattle.asl_shape.specs.Shapes as shapes
-use Rattle.asl_shape.specs.Symbols.{symbol_of}
-use Rattle.asl_parser.specs.declared.raw.Infix.{Infix}
+use Rattle.asl_syntax.specs.Written as piece
+use Rattle.asl_syntax.specs.Written.{Written, Writtens, WrittenGroup, item, apply, listed, comma, semicolon, empty, none, more, absent, given}
+use Rattle.asl_terms.specs.Plans.{Plan, omitted, a_name, a_fill, a_unit, a_skip, an_access, Plans, no_plans, plan, plan_at, join, number_of, how_many}
+use Rattle.asl_terms.specs.Terms.{Shaped, fine, refused, nowhere, is_given, inside_of, evaluated, checked, place_of}
+use Rattle.asl_shape.specs.Shapes.{is_empty, is_separator, has_arguments, takes, none_empty, is_call, left_out, joined, skipped, list_shape}
+use Rattle.asl_shape.specs.Shapes.{is_listed, byte_slot, run_after, within, form_shape, bare, operands, call_args, arguments, arguments_in}
+use Rattle.asl_shape.specs.Shapes.{contents, members}
+use Rattle.asl_terms.specs.Terms.{string_shape, fault_at, arranged, accessed_as, connected_to, element_plan}
+use Rattle.asl_shape.specs.Shapes.{terms, read_shape, element_shape, macro_shape, template_shape, descriptor_shape, meaning_in}
+use Rattle.asl_shape.specs.Shapes.{is_field_list, begin, field_slot, named_unit, unit_behind, of_bits, field_part, due_behind, elements}
+use Rattle.asl_shape.specs.Shapes.{cases, default_after, element_place, begun}
+use Rattle.word_meanings.specs.Meanings.{meaning_of, may_end, may_be, is_branch_role, reading_of, slot_as, is_word_of, is_whole, is_long_attribute}
+use Rattle.asl_terms.specs.Terms as shapes
+use Rattle.asl_terms.specs.Symbols.{symbol_of}
+use Rattle.asl_syntax.specs.declared.raw.Infix.{Infix}
 use Rattle.program_shapes.specs.Kept.{IsKept, AreArguments, EachArgument, AreMembers, EachMember}
 use Rattle.program_shapes.proofs.Fits.{Fits, IsAtMost, IsElement, IsAttribute, IsConnected, FormedValues, FormedElements, FormedTerms}
 use Rattle.program_shapes.proofs.Forms.{ListFit}

@@ -9,8 +9,8 @@ use Rattle.acpi_names.specs.Errors.{whole_of, name_errors, type_errors}
 use Rattle.acpi_names.specs.Parts.{Agrees}
 use Rattle.acpi_names.specs.Tables.{Tabled}
 use Rattle.acpi_names.specs.Terms.{are_terms}
-use Rattle.asl_parser.specs.declared.raw.Raw.{Raw}
-use Rattle.asl_parser.specs.Written.{writtens}
+use Rattle.asl_syntax.specs.declared.raw.Raw.{Raw}
+use Rattle.asl_syntax.specs.Written.{writtens}
 use Rattle.asl_shape.specs.Forms.{errors_at}
 use Rattle.asl_numbers.specs.Numbers.{numbered_all}
 use Rattle.named_sessions.specs.Shaped.{AreFormed, AreNamed}

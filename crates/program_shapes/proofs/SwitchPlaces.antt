@@ -5,12 +5,12 @@ use Rattle.std.specs.List.{All}
 use Rattle.iasl_messages.specs.declared.place.Place.{Place}
 use Rattle.iasl_messages.specs.declared.message.Message.{Message}
 use Rattle.acpi_values.specs.declared.width.Width.{Width}
-use Rattle.asl_parser.specs.Within.{IsIn}
+use Rattle.asl_syntax.specs.Within.{IsIn}
 use Rattle.asl_tree.specs.declared.term.Op.{Op}
 use Rattle.asl_tree.specs.Tree.{Tree, Method, Container', Scope, If, ElseIf, Else, While, For, Switch, Case, Default, Trees, no_trees, tree}
-use Rattle.asl_shape.specs.Places.{AreTold}
-use Rattle.asl_shape.specs.Plans.{Plan, a_form, Plans, no_plans, plan, plan_at}
-use Rattle.asl_shape.specs.Shapes.{nowhere}
+use Rattle.asl_terms.specs.Places.{AreTold}
+use Rattle.asl_terms.specs.Plans.{Plan, a_form, Plans, no_plans, plan, plan_at}
+use Rattle.asl_terms.specs.Terms.{nowhere}
 use Rattle.hidden_locals.specs.Switches.{is_enough}
 use Rattle.switch_loops.specs.Switched.{is_switch}
 use Rattle.switch_checks.specs.Told.{told}

@@ -33,9 +33,9 @@ use Rattle.asl_lower.proofs.Declared.{same_known, same_externals}
 use Rattle.asl_lower.proofs.Errors.{no_name_errors, no_type_errors}
 use Rattle.asl_tree.specs.Tree.{Trees}
 use Rattle.program_shapes.proofs.Lowered.{all_named}
-use Rattle.asl_parser.specs.declared.raw.Raw.{Raw}
-use Rattle.asl_parser.specs.Written.{writtens}
-use Rattle.asl_shape.specs.Plans.{plan_at, number_of}
+use Rattle.asl_syntax.specs.declared.raw.Raw.{Raw}
+use Rattle.asl_syntax.specs.Written.{writtens}
+use Rattle.asl_terms.specs.Plans.{plan_at, number_of}
 use Rattle.asl_shape.specs.Forms.{errors_at, args_of}
 use Rattle.program_shapes.specs.Kept.{IsKeptSource}
 use Rattle.program_shapes.proofs.Lists.{plans_laid}

@@ -1,7 +1,7 @@
 -- The terms of a source, and their trees with their nodes numbered, stand in the files in which its parts stand.
 use Rattle.std.proofs.Common.{ℕ}
-use Rattle.asl_parser.specs.Written.{Writtens}
-use Rattle.asl_parser.specs.Within as source
+use Rattle.asl_syntax.specs.Written.{Writtens}
+use Rattle.asl_syntax.specs.Within as source
 use Rattle.asl_shape.specs.Forms.{terms_of}
 use Rattle.asl_numbers.specs.Numbers.{numbered_all}
 use Rattle.named_sessions.specs.Places.{AreWithin}

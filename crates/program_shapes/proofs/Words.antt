@@ -11,17 +11,17 @@ use Rattle.aml_code.specs.Fronts.{IsUsedName, AreSegments, is_segment, HasStart}
 use Rattle.asl_words.specs.declared.operator.Named.{Named}
 use Rattle.asl_words.specs.declared.operator.Known.{Known}
 use Rattle.asl_words.specs.declared.operator.Known.TheVariants as known
-use Rattle.asl_words.specs.declared.meaning.Meaning.{Meaning}
-use Rattle.asl_words.specs.declared.meaning.Meaning.TheVariants as is
+use Rattle.word_meanings.specs.declared.meaning.Meaning.{Meaning}
+use Rattle.word_meanings.specs.declared.meaning.Meaning.TheVariants as is
 use Rattle.asl_words.specs.Operators.{operators, words, row_in, named_in, op_in, known_in, operator_of, word_of, is_filled}
 use Rattle.asl_words.specs.declared.operator.Operator.{Operator}
 use Rattle.asl_tree.specs.declared.term.Symbolic.TheVariants as Symbolic
-use Rattle.asl_parser.specs.declared.raw.Infix.{Infix}
+use Rattle.asl_syntax.specs.declared.raw.Infix.{Infix}
 use Rattle.acpi_values.specs.declared.operator.DataOp.TheVariants as DataOp
 use Rattle.acpi_values.specs.declared.operator.Plain.{Plain}
-use Rattle.asl_shape.specs.Symbols.{symbol_of}
+use Rattle.asl_terms.specs.Symbols.{symbol_of}
 use Rattle.asl_words.specs.Paths.{is_lead, is_name_byte, is_dot, is_path, segment_with, segment_of, with_first, words_of, behind_segment, segments_of, segments_in, rest_segments, path_with, carets, relative_path, path_of}
-use Rattle.asl_words.specs.Meanings.{meaning_of, name_or_unknown, known_as}
+use Rattle.word_meanings.specs.Meanings.{meaning_of, name_or_unknown, known_as}
 
 -- ---- paths
 

@@ -2,13 +2,13 @@
 use Rattle.std.specs.Prelude.{◌≡◌, ◌<◌, ◌≤◌, true, false, List, [], ◌∷◌, length}
 use Rattle.acpi_values.specs.Widths.{ones_of}
 use Rattle.acpi_values.specs.declared.width.Width.TheVariants.{W64}
-use Rattle.asl_parser.specs.declared.raw.Raw.{Raw}
-use Rattle.asl_parser.specs.Written as piece
-use Rattle.asl_parser.specs.Written.{Written, Writtens, WrittenGroup, item, apply, none, more, absent, given, writtens}
+use Rattle.asl_syntax.specs.declared.raw.Raw.{Raw}
+use Rattle.asl_syntax.specs.Written as piece
+use Rattle.asl_syntax.specs.Written.{Written, Writtens, WrittenGroup, item, apply, none, more, absent, given, writtens}
 use Rattle.asl_words.specs.Operators.{parameters_of}
-use Rattle.asl_shape.specs.Symbols.{symbol_of}
+use Rattle.asl_terms.specs.Symbols.{symbol_of}
 use Rattle.asl_shape.specs.Shapes.{is_empty, is_separator, takes}
-use Rattle.asl_shape.specs.Shapes as shapes
+use Rattle.asl_terms.specs.Terms as shapes
 use Rattle.asl_shape.specs.Forms.{alone}
 
 -- no argument is a comma or semicolon, a symbol has the operands that it asks for, nothing in braces is left out, and there is

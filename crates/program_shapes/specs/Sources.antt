@@ -14,9 +14,9 @@ use Rattle.asl_fold.specs.Folds.{folded_where}
 use Rattle.wrapped_externals.specs.Wraps.{wrapped_where}
 use Rattle.asl_prints.specs.Forms.{formed_all}
 use Rattle.hidden_locals.specs.Switches.{without_switches}
-use Rattle.asl_parser.specs.declared.raw.Raw.{Raw}
-use Rattle.asl_parser.specs.Written.{writtens}
-use Rattle.asl_shape.specs.Plans.{Plans, plan_at, text_of, number_of}
+use Rattle.asl_syntax.specs.declared.raw.Raw.{Raw}
+use Rattle.asl_syntax.specs.Written.{writtens}
+use Rattle.asl_terms.specs.Plans.{Plans, plan_at, text_of, number_of}
 use Rattle.asl_shape.specs.Forms.{errors_at, alone, args_of, terms_of}
 use Rattle.asl_numbers.specs.Numbers.{numbered_all}
 use Rattle.descriptor_fields.specs.Declaring.{declaring}

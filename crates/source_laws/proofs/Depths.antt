@@ -1,18 +1,19 @@
 -- Each front of a source has exactly one depth.
 use Rattle.std.proofs.Common.{◌≡◌, ℕ, suc, ◌+◌, ◌≤◌, Bool, false, List, [], ◌∷◌, ◌++◌, Option, Some, None, refl, sym, ap, subst, ◌∙◌, inl, inr, ◌⊎◌, arith, take, append-nil}
 use Rattle.std.proofs.lemmas.Bool.{cases_lt}
-use Rattle.asl_parser.specs.declared.sign.Sign.TheVariants as s
-use Rattle.asl_parser.specs.declared.mark.Spot.{Spot}
-use Rattle.asl_parser.specs.declared.mark.Mark.{Mark}
-use Rattle.asl_parser.specs.declared.raw.Infix.{Infix}
-use Rattle.asl_parser.specs.declared.subtree.Subtrees.{Subtrees}
-use Rattle.asl_parser.specs.declared.frame.Frame.{Frame}
-use Rattle.asl_parser.specs.declared.frame.Frame.TheVariants as f
-use Rattle.asl_parser.specs.declared.frame.ParserState.{ParserState}
-use Rattle.asl_parser.specs.declared.frame.ParserState.TheVariants as st
-use Rattle.asl_parser.specs.Trees.{Tree, Trees, TreeGroup, none, more}
-use Rattle.asl_parser.specs.Grow.{no_subtrees, joined, item, grown, grown_all, grown_in}
-use Rattle.asl_parser.specs.Machine.{Config, Answer, source, stop, depth, walk, start, room, begin, after, element, first_element, step, run}
+use Rattle.asl_syntax.specs.declared.sign.Sign.TheVariants as s
+use Rattle.asl_syntax.specs.declared.mark.Spot.{Spot}
+use Rattle.asl_syntax.specs.declared.mark.Mark.{Mark}
+use Rattle.asl_syntax.specs.declared.raw.Infix.{Infix}
+use Rattle.asl_syntax.specs.declared.subtree.Subtrees.{Subtrees}
+use Rattle.asl_syntax.specs.declared.frame.Frame.{Frame}
+use Rattle.asl_syntax.specs.declared.frame.Frame.TheVariants as f
+use Rattle.asl_parser.specs.declared.state.ParserState.{ParserState}
+use Rattle.asl_parser.specs.declared.state.ParserState.TheVariants as st
+use Rattle.asl_syntax.specs.Trees.{Tree, Trees, TreeGroup, none, more}
+use Rattle.asl_syntax.specs.Grow.{no_subtrees, joined, item, grown, grown_all, grown_in}
+use Rattle.asl_syntax.specs.Frames.{depth, start, room}
+use Rattle.asl_parser.specs.Machine.{Config, Answer, source, stop, walk, begin, after, element, first_element, step, run}
 use Rattle.asl_parser.specs.Machine as m
 use Rattle.asl_parser.specs.Grammar.{sign, word, all, MayFollow, Reads, IsSource}
 use Rattle.asl_parser.specs.Grammar as g

@@ -1,23 +1,24 @@
 -- How much is open by the productions, and by the frames that are held.
 use Rattle.std.proofs.Common.{◌≡◌, ℕ, suc, ◌+◌, ◌-◌, ◌≤◌, ◌<◌, Bool, false, List, [], ◌∷◌, Option, Some, None, refl, sym, ap, subst, arith}
 use Rattle.std.specs.Prelude.{nat_eq, if◌then◌else◌}
-use Rattle.asl_parser.specs.declared.sign.Sign.TheVariants as s
-use Rattle.asl_parser.specs.declared.sign.Strength.{Strength}
-use Rattle.asl_parser.specs.declared.mark.Spot.{Spot}
-use Rattle.asl_parser.specs.declared.mark.Mark.{Mark}
-use Rattle.asl_parser.specs.declared.raw.Infix.{Infix}
-use Rattle.asl_parser.specs.declared.raw.Infix.TheVariants as op
-use Rattle.asl_parser.specs.declared.subtree.Subtrees.{Subtrees}
-use Rattle.asl_parser.specs.declared.frame.Frame.{Frame}
-use Rattle.asl_parser.specs.declared.frame.Frame.TheVariants as f
-use Rattle.asl_parser.specs.declared.frame.ParserState.{ParserState}
-use Rattle.asl_parser.specs.declared.frame.ParserState.TheVariants as st
-use Rattle.asl_parser.specs.Signs.{strength}
-use Rattle.asl_parser.specs.Trees.{Tree, Trees, TreeGroup, none, more, absent}
-use Rattle.asl_parser.specs.Trees as t
-use Rattle.asl_parser.specs.Grow.{no_subtrees, joined, grown, grown_all, grown_in}
-use Rattle.asl_parser.specs.Machine.{depth, room, unlimited}
-use Rattle.asl_parser.specs.declared.mark.Lexeme.TheVariants as l
+use Rattle.asl_syntax.specs.declared.sign.Sign.TheVariants as s
+use Rattle.asl_syntax.specs.declared.sign.Strength.{Strength}
+use Rattle.asl_syntax.specs.declared.mark.Spot.{Spot}
+use Rattle.asl_syntax.specs.declared.mark.Mark.{Mark}
+use Rattle.asl_syntax.specs.declared.raw.Infix.{Infix}
+use Rattle.asl_syntax.specs.declared.raw.Infix.TheVariants as op
+use Rattle.asl_syntax.specs.declared.subtree.Subtrees.{Subtrees}
+use Rattle.asl_syntax.specs.declared.frame.Frame.{Frame}
+use Rattle.asl_syntax.specs.declared.frame.Frame.TheVariants as f
+use Rattle.asl_parser.specs.declared.state.ParserState.{ParserState}
+use Rattle.asl_parser.specs.declared.state.ParserState.TheVariants as st
+use Rattle.asl_syntax.specs.Signs.{strength}
+use Rattle.asl_syntax.specs.Trees.{Tree, Trees, TreeGroup, none, more, absent}
+use Rattle.asl_syntax.specs.Trees as t
+use Rattle.asl_syntax.specs.Grow.{no_subtrees, joined, grown, grown_all, grown_in}
+use Rattle.asl_syntax.specs.Frames.{depth, room}
+use Rattle.asl_parser.specs.Machine.{unlimited}
+use Rattle.asl_syntax.specs.declared.mark.Lexeme.TheVariants as l
 use Rattle.asl_parser.specs.Grammar.{at, sign, word, all, MayFollow, Reads}
 use Rattle.asl_parser.specs.Grammar as g
 use Rattle.asl_parser.specs.Front.{LeavesOpen, TakesList, TakesExpression, Suits, TakesElement, FirstArgument, FirstElement, NextArgument, IsFrontIn}

@@ -13,11 +13,11 @@ use Rattle.asl_directives.specs.Kinds.{kind_of}
 use Rattle.asl_preprocess.specs.Rows.{Directive, Ordinary, rows_of}
 use Rattle.asl_preprocess.specs.State.{State, Outcome, with_lines}
 use Rattle.asl_preprocess.specs.Preprocess.{Setting, Given, preprocessed}
-use Rattle.asl_parser.specs.declared.sign.Sign.TheVariants as s
-use Rattle.asl_parser.specs.declared.mark.Spot.{Spot}
-use Rattle.asl_parser.specs.declared.mark.Mark.{Mark}
-use Rattle.asl_parser.specs.declared.raw.Infix.TheVariants as op
-use Rattle.asl_parser.specs.Signs.{strength}
+use Rattle.asl_syntax.specs.declared.sign.Sign.TheVariants as s
+use Rattle.asl_syntax.specs.declared.mark.Spot.{Spot}
+use Rattle.asl_syntax.specs.declared.mark.Mark.{Mark}
+use Rattle.asl_syntax.specs.declared.raw.Infix.TheVariants as op
+use Rattle.asl_syntax.specs.Signs.{strength}
 use Rattle.asl_parser.specs.Grammar.{sign, word}
 use Rattle.asl_parser.specs.Grammar as g
 use Rattle.source_laws.specs.Conditionals.{RowTree, no_rows, row, conditional, no_branches, branch, listed, AreWhole, read, alone}

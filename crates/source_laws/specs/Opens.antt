@@ -1,13 +1,13 @@
 -- How much is open at the end of a front: each production of the grammar, cut short where its next part is to come.
 use Rattle.std.specs.Prelude.{◌≡◌, ℕ, suc, ◌+◌, ◌≤◌, ◌<◌, Bool, false, List, [], ◌∷◌, length, take, Option, Some, None}
-use Rattle.asl_parser.specs.declared.sign.Sign.TheVariants as s
-use Rattle.asl_parser.specs.declared.sign.Strength.{Strength}
-use Rattle.asl_parser.specs.declared.mark.Spot.{Spot}
-use Rattle.asl_parser.specs.declared.mark.Mark.{Mark}
-use Rattle.asl_parser.specs.declared.raw.Infix.{Infix}
-use Rattle.asl_parser.specs.declared.raw.Infix.TheVariants as op
-use Rattle.asl_parser.specs.Signs.{strength}
-use Rattle.asl_parser.specs.Trees.{Tree, Trees, TreeGroup}
+use Rattle.asl_syntax.specs.declared.sign.Sign.TheVariants as s
+use Rattle.asl_syntax.specs.declared.sign.Strength.{Strength}
+use Rattle.asl_syntax.specs.declared.mark.Spot.{Spot}
+use Rattle.asl_syntax.specs.declared.mark.Mark.{Mark}
+use Rattle.asl_syntax.specs.declared.raw.Infix.{Infix}
+use Rattle.asl_syntax.specs.declared.raw.Infix.TheVariants as op
+use Rattle.asl_syntax.specs.Signs.{strength}
+use Rattle.asl_syntax.specs.Trees.{Tree, Trees, TreeGroup}
 use Rattle.asl_parser.specs.Grammar.{sign, word, MayFollow, Reads}
 use Rattle.asl_parser.specs.Grammar as g
 

@@ -13,7 +13,7 @@ ghost use Rattle.asl_lexer.specs.declared.token.Token.{Token};
 ghost use Rattle.asl_lexer.specs.Scan.{MarkedByte};
 ghost use Rattle.asl_lexer.specs.Cut.{Each, Stops, class, in_line, Content, Breaks, Inside, Cut};
 ghost use Rattle.source_laws.specs.Parts.{Part, Parts, tokens_in};
-ghost use Rattle.asl_parser.specs.declared.mark.Mark.{Mark};
+ghost use Rattle.asl_syntax.specs.declared.mark.Mark.{Mark};
 ghost use Rattle.asl_parser.specs.Front.{IsFront};
 ghost use Rattle.asl_parser.specs.Depth.{IsDeeper, IsShallow, OpensTooMuch};
 ghost use Rattle.source_laws.specs.Opens.{OpensInSource, IsFirstTooDeep};

@@ -20,7 +20,7 @@ use Rattle.asl_lower.specs.Nodes.{before, named, named_all}
 use Rattle.asl_lower.specs.Nests.{joined}
 use Rattle.wrapped_externals.specs.Wraps.{starts_branch, leading, in_if, wrapped, behind, wrapped_all, wrapped_where}
 use Rattle.wrapped_externals.specs.Starts.{is_free, inner_starts, starts, with_ifs, placed_where}
-use Rattle.asl_shape.specs.Plans.{Plan, a_name, a_unit, a_call, a_form, Plans, no_plans, plan}
+use Rattle.asl_terms.specs.Plans.{Plan, a_name, a_unit, a_call, a_form, Plans, no_plans, plan}
 use Rattle.asl_numbers.specs.Numbers.{inside as within, nodes, numbered, numbered_all}
 use Rattle.hidden_locals.specs.Crossing.{has_continue, have_continue}
 use Rattle.hidden_locals.specs.Turns.{Plan as Turns, value_local, then_trees, else_of, loop_of, loop_terms, continue_terms}

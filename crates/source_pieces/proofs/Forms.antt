@@ -28,7 +28,7 @@ use Rattle.switch_loops.specs.Kinds.{flagged as flagged_kind, part_kind, form_ki
 use Rattle.switch_loops.specs.Places.{Following, body_inside, else_places, turn_places, loop_places, form_places, case_places, default_places}
 use Rattle.switch_loops.proofs.KindRows.{tree_kind, kind_form}
 use Rattle.named_sessions.specs.Shaped.{AreNamed, IsFormed, AreFormed, AreFormedCases}
-use Rattle.asl_shape.specs.Plans.{Plans}
+use Rattle.asl_terms.specs.Plans.{Plans}
 use Rattle.source_pieces.specs.Places.{form_is_left, steps_inside, is_inside, form_at, case_at}
 
 -- what is formed where symbols, ElseIfs and Switches may stand, but no Fors and nothing that prints

@@ -3,8 +3,8 @@ use Rattle.std.proofs.Common.{◌≡◌, suc, Bool, List, [], ◌∷◌, ◌++�
 use Rattle.iasl_messages.specs.declared.place.Place.{Place}
 use Rattle.iasl_messages.specs.declared.place.Line.{Line}
 use Rattle.iasl_messages.specs.declared.place.Piece.{Piece}
-use Rattle.asl_parser.specs.declared.raw.Raw.{Raw}
-use Rattle.asl_parser.specs.Written.{writtens}
+use Rattle.asl_syntax.specs.declared.raw.Raw.{Raw}
+use Rattle.asl_syntax.specs.Written.{writtens}
 use Rattle.asl_shape.specs.Forms.{errors_at}
 use Rattle.program_shapes.specs.Kept.{IsKeptSource}
 use Rattle.program_shapes.specs.Sources.{plans_in, statements_in, fields_in, width_in, described_in, spelled_in, table_in}

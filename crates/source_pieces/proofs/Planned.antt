@@ -7,7 +7,7 @@ use Rattle.asl_tree.specs.declared.term.Term.{Term}
 use Rattle.asl_tree.specs.declared.term.Term as D
 use Rattle.asl_tree.specs.Tree.{At, no_trees}
 use Rattle.asl_tree.specs.View.{tree_of, row_trees, trees_of}
-use Rattle.asl_shape.specs.Plans.{plan_of, row_plans, plans_of}
+use Rattle.asl_terms.specs.Plans.{plan_of, row_plans, plans_of}
 use Rattle.hidden_locals.specs.Crossing.{has_continue, have_continue}
 use Rattle.switch_loops.specs.Places.{Following, chain_places, body_inside, looped_at, looped_row, cases_row, default_row, looped_places}
 use Rattle.named_sessions.specs.Shaped.{AreNamed, AreFormed}

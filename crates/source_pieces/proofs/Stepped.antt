@@ -8,7 +8,7 @@ use Rattle.asl_tree.specs.declared.term.Declaration.TheVariants as Declaration
 use Rattle.asl_tree.specs.declared.term.Control.TheVariants as Control
 use Rattle.asl_tree.specs.Tree.{At, Tree, Integer, Use, For, Trees, no_trees, tree}
 use Rattle.asl_tree.specs.View.{form}
-use Rattle.asl_shape.specs.Plans.{Plan, a_text, a_name, a_unit, a_call, debug, omitted, a_form, Plans, no_plans, plan, join}
+use Rattle.asl_terms.specs.Plans.{Plan, a_text, a_name, a_unit, a_call, debug, omitted, a_form, Plans, no_plans, plan, join}
 use Rattle.asl_prints.specs.Forms as F
 use Rattle.asl_prints.specs.Nodes.{goes_in}
 use Rattle.asl_prints.specs.Plans as P

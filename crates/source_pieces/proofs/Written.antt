@@ -9,9 +9,9 @@ use Rattle.asl_tree.specs.View.{trees_of}
 use Rattle.term_places.specs.Places.{places_of}
 use Rattle.aml_code.specs.Header.{fields_of}
 use Rattle.aml_sessions.specs.Ready.{AreReady}
-use Rattle.asl_parser.specs.declared.raw.Raw.{Raw}
-use Rattle.asl_parser.specs.Written.{writtens}
-use Rattle.asl_shape.specs.Plans.{plans_of}
+use Rattle.asl_syntax.specs.declared.raw.Raw.{Raw}
+use Rattle.asl_syntax.specs.Written.{writtens}
+use Rattle.asl_terms.specs.Plans.{plans_of}
 use Rattle.asl_shape.specs.Forms.{block_place}
 use Rattle.wrapped_externals.specs.Starts.{placed_where}
 use Rattle.program_shapes.specs.Sources.{plans_in, fields_in, lowered_in, spelled_in}

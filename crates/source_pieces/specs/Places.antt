@@ -10,7 +10,7 @@ use Rattle.asl_tree.specs.declared.term.Declaration.TheVariants as Declaration
 use Rattle.asl_tree.specs.declared.term.Op.{Op}
 use Rattle.term_places.specs.Places.{holds_terms}
 use Rattle.switch_loops.specs.Places.{Following, chain_places, else_places, turn_places, loop_places, continue_places, body_inside}
-use Rattle.asl_shape.specs.Plans.{Plan, omitted, a_form, Plans, no_plans, plan}
+use Rattle.asl_terms.specs.Plans.{Plan, omitted, a_form, Plans, no_plans, plan}
 use Rattle.asl_prints.specs.Nodes.{goes_in}
 
 -- whether a Continue leaves a form, by whether one leaves the terms in its braces

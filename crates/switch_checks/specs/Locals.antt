@@ -5,8 +5,8 @@ use Rattle.iasl_messages.specs.declared.message.Message.{Message}
 use Rattle.asl_tree.specs.declared.term.Op.{Op}
 use Rattle.asl_tree.specs.declared.term.Declaration.TheVariants as Declaration
 use Rattle.asl_tree.specs.Tree.{Tree, Method, Container', Scope, Trees, no_trees, tree, If, ElseIf, Else, While, For, Switch, Case, Default}
-use Rattle.asl_shape.specs.Plans.{Plan, a_form, Plans, no_plans, plan, plan_at}
-use Rattle.asl_shape.specs.Shapes.{nowhere}
+use Rattle.asl_terms.specs.Plans.{Plan, a_form, Plans, no_plans, plan, plan_at}
+use Rattle.asl_terms.specs.Terms.{nowhere}
 use Rattle.acpi_names.specs.declared.part.NameRole.{NameRole}
 use Rattle.acpi_names.specs.declared.part.NameRole.TheVariants as P
 use Rattle.acpi_names.specs.declared.part.What.{What}

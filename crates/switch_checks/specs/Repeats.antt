@@ -5,7 +5,7 @@ use Rattle.iasl_messages.specs.declared.message.Message.{Message}
 use Rattle.acpi_values.specs.declared.width.Width.{Width}
 use Rattle.asl_tree.specs.declared.term.Op.{Op}
 use Rattle.asl_tree.specs.declared.term.Control.TheVariants as Control
-use Rattle.asl_shape.specs.Plans.{Plan, a_form, Plans, no_plans, plan}
+use Rattle.asl_terms.specs.Plans.{Plan, a_form, Plans, no_plans, plan}
 use Rattle.switch_loops.specs.Switched.{is_switch}
 use Rattle.switch_checks.specs.Told.{told}
 use Rattle.switch_checks.specs.Values.{CaseValue, value_of, is_package, occurs}

@@ -1,14 +1,11 @@
 ghost use Rattle.std.specs.Prelude.{◌≡◌};
 ghost use Rattle.asl_numbers.specs.Numbers.{numbered_all};
-ghost use Rattle.asl_shape.specs.Plans.{plans_of};
+ghost use Rattle.asl_terms.specs.Plans.{plans_of};
 ghost use Rattle.asl_tree.specs.View.{trees_of};
 
-use super::tokens_of;
+use super::terms_of;
 use acpi_names::index::{BlockNames, names_of};
-use asl_parser::parse;
-use asl_shape::shape;
 use asl_tree::term::{Node, Term, Word};
-use bumpalo::Bump;
 use descriptor_checks::check::{Resolved, resolved_names};
 use descriptor_checks::described::described;
 use descriptor_checks::told::sorted_mentions;
@@ -16,7 +13,6 @@ use descriptor_fields::declare::names_descriptors;
 use descriptor_fields::strip::stripped;
 use iasl_messages::message::Message;
 use std::alloc::{AllocError, Global};
-use std::mem::replace;
 use std::test::Fail;
 
 // The constants of fields among terms, in preorder.
@@ -75,23 +71,10 @@ fn put_faults(alloc: Global, out: &mut String, terms: &[Node]) -> Result<(), All
 // What the terms of a block come to: how many there are with those that declare descriptors, and without them; the constants
 // that fields are; and what is told of uses, each with its column.
 fn outcome(alloc: Global, text: &str) -> Result<String, AllocError> {
-    let tokens = tokens_of(alloc, text)?;
-    if tokens.len() > 1000 {
-        return String::from_str(alloc, "too long");
-    }
-    let arena = Bump::new(alloc);
-    let Ok(unit) = parse(alloc, &arena, &tokens) else {
-        return String::from_str(alloc, "no tree");
-    };
-    let Ok(program) = shape(alloc, &unit) else {
+    let Some(written) = terms_of(alloc, text)? else {
         return String::from_str(alloc, "refused");
     };
-    let mut blocks = program.blocks.into_vec();
-    let Some(mut block) = blocks.pop() else {
-        return String::from_str(alloc, "no block");
-    };
-    let named = names_descriptors(&block.terms);
-    let written = replace(&mut block.terms, Vec::new(alloc));
+    let named = names_descriptors(&written);
     let Resolved { terms, uses } = resolved_names(alloc, written)?;
     let all = terms.len();
     let mut told = String::new(alloc);

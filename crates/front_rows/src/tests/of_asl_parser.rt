@@ -1,5 +1,6 @@
 use asl_lexer::token::{Token, TokenKind, Tokens};
-use asl_parser::{Infix, NodeForm, Syntax, SyntaxNode, SyntaxNodes, SyntaxText, parse};
+use asl_parser::{Syntax, parse};
+use asl_syntax::{Infix, NodeForm, SyntaxNode, SyntaxNodes, SyntaxText};
 use bumpalo::Bump;
 use iasl_messages::place::Place;
 use iasl_ports::list::Text;

@@ -1,27 +1,37 @@
-use super::{add, name, named_form};
+use super::words::{path, terms};
+use super::{Outcome, wrong_row};
 use acpi_names::index::{BlockNames, Index, denoted_by, names_of};
-use asl_tree::path::{NameSeg, Path, Segs};
-use asl_tree::term::{Declaration, Node, Op, Special, Term};
+use asl_tree::path::Path;
+use asl_tree::term::{Node, Term};
 use name_spelling::spell::spell;
 use std::alloc::{AllocError, Global};
 use std::test::Fail;
 
-// The names and the numbers of terms, each with a space behind it, in the order in which they stand.
-fn write_terms(out: &mut Vec<u8>, nodes: &[Node]) -> Result<(), AllocError> {
+fn write_path(alloc: Global, out: &mut String, path: &Path) -> Result<(), AllocError> {
+    if path.root {
+        out.push('\\')?;
+    }
+    for _ in 0..path.up {
+        out.push('^')?;
+    }
+    for segment in path.segs.as_slice() {
+        for byte in segment {
+            out.push(char::from(*byte))?;
+        }
+        out.push(' ')?;
+    }
+    Ok(())
+}
+
+// The names and the numbers of terms, each with a blank behind it, in the order in which they stand.
+fn write_terms(alloc: Global, out: &mut String, nodes: &[Node]) -> Result<(), AllocError> {
     for node in nodes {
         match &node.term {
-            Term::Name(path) => write_path(out, path)?,
-            Term::Integer(number) => {
-                out.push(b"0123456789"[(*number % 10) as usize])?;
-                out.push(b' ')?;
-            }
-            Term::Call { path, args } => {
-                write_path(out, path)?;
-                write_terms(out, args)?;
-            }
-            Term::Form { op, args, body } => {
-                write_terms(out, args)?;
-                write_terms(out, body)?;
+            Term::Name(path) => write_path(alloc, out, path)?,
+            Term::Integer(number) => out.push_str(format!(in alloc; "{number} ")?.as_str())?,
+            Term::Form { args, body, .. } => {
+                write_terms(alloc, out, args)?;
+                write_terms(alloc, out, body)?;
             }
             _ => {}
         }
@@ -29,314 +39,135 @@ fn write_terms(out: &mut Vec<u8>, nodes: &[Node]) -> Result<(), AllocError> {
     Ok(())
 }
 
-fn write_path(out: &mut Vec<u8>, path: &Path) -> Result<(), AllocError> {
-    if path.root {
-        out.push(b'\\')?;
+// The number of the path that a name in the root denotes, or 0.
+fn number_of(index: &Index, path: &Path) -> usize {
+    if index.named.len() != index.paths.len() || index.paths.len() == 0 {
+        return 0;
     }
-    for _ in 0..path.up {
-        out.push(b'^')?;
-    }
-    for segment in path.segs.as_slice() {
-        for byte in segment {
-            out.push(*byte)?;
-        }
-        out.push(b' ')?;
-    }
-    Ok(())
+    denoted_by(index, path, 0).unwrap_or(0)
 }
 
-// The number of a name's path from the root, if it is there.
-fn number_of(alloc: Global, index: &Index, segment: NameSeg) -> Result<usize, AllocError> {
-    match name(alloc, segment)? {
-        Term::Name(path) => {
-            if index.named.len() != index.paths.len() || index.paths.len() == 0 {
-                return Ok(0);
-            }
-            Ok(denoted_by(index, &path, 0).unwrap_or(0))
-        }
-        _ => Ok(0),
-    }
-}
-
-// The terms as they are spelled, where a name is called first with so many arguments.
+// The terms as they are spelled, with these calls of their names, and these paths that a search meets besides.
 fn spelled(
     alloc: Global,
+    index: Index,
+    calls: &[Option<usize>],
+    also: &[bool],
     shorten: bool,
     terms: Vec<Node>,
-    called: NameSeg,
-    count: Option<usize>,
-) -> Result<Vec<u8>, AllocError> {
-    let BlockNames { index, mentions } = names_of(alloc, &terms)?;
-    drop(mentions);
-    let number = number_of(alloc, &index, called)?;
-    let mut calls = Vec::new(alloc);
-    for _ in 0..number {
-        calls.push(None)?;
-    }
-    calls.push(count)?;
-    let mut out = Vec::new(alloc);
-    if index.named.len() == index.paths.len() && calls.len() <= index.paths.len() {
-        let spelled = spell(alloc, index, &calls, &[], shorten, terms)?;
-        write_terms(&mut out, &spelled)?;
+) -> Result<String, AllocError> {
+    let mut out = String::new(alloc);
+    let count = index.paths.len();
+    if index.named.len() == count && calls.len() <= count && also.len() <= count {
+        let spelled = spell(alloc, index, calls, also, shorten, terms)?;
+        write_terms(alloc, &mut out, &spelled)?;
     }
     Ok(out)
 }
 
-// Name (segment, other)
-fn named_other(alloc: Global, segment: NameSeg, other: Term) -> Result<Term, AllocError> {
-    let mut value = Vec::new(alloc);
-    add(&mut value, other)?;
-    named_form(alloc, Declaration::Name, segment, value, Vec::new(alloc))
-}
-
-fn package(alloc: Global, segments: &[NameSeg]) -> Result<Term, AllocError> {
-    let mut args = Vec::new(alloc);
-    add(&mut args, Term::Omitted)?;
-    let mut body = Vec::new(alloc);
-    for segment in segments {
-        add(&mut body, name(alloc, *segment)?)?;
+// No call of any name but of the one with a number, which has so many arguments.
+fn one_call(
+    alloc: Global,
+    number: usize,
+    arguments: Option<usize>,
+) -> Result<Vec<Option<usize>>, AllocError> {
+    let mut calls = Vec::new(alloc);
+    for _ in 0..number {
+        calls.push(None)?;
     }
-    Ok(Term::Form {
-        op: Op::Special(Special::Package),
-        args,
-        body,
-    })
+    calls.push(arguments)?;
+    Ok(calls)
 }
 
-// Device (A) { Name (X, 0) Name (B, X) Name (Y, 1) Name (C, Y) }, Name (X, 2), Name (D, X),
-// Name (P, Package { X, Z }): in A, X has two candidates and Y has one; a Package's names are searched late.
+// The terms of a text as they are spelled; before them stands the number of arguments with which E___ is called first, or -.
+pub(super) fn spelled_text(alloc: Global, shorten: bool, text: &str) -> Result<String, AllocError> {
+    let Some((count, text)) = text.split_once(' ') else {
+        return Ok(String::new(alloc));
+    };
+    let terms = terms(alloc, text)?;
+    let BlockNames { index, mentions } = names_of(alloc, &terms)?;
+    drop(mentions);
+    let number = number_of(&index, &path(alloc, "E___")?);
+    let calls = one_call(alloc, number, count.parse().ok())?;
+    spelled(alloc, index, &calls, &[], shorten, terms)
+}
+
+/// The number of arguments of the first call of E___, or - where there is none, terms, and their names and numbers as they are spelled.
+const WRITTEN: &str = "
+    // In A, X has two candidates and Y has one; a Package's names are searched late.
+    - Device:A___{ Name:X___,0 Name:B___,X___ Name:Y___,1 Name:C___,Y___ } Name:X___,2 Name:D___,X___ Name:P___,#X___.Z___ => \
+        A___ X___ 0 B___ \\A___ X___ Y___ 1 C___ Y___ X___ 2 D___ X___ P___ \\X___ \\Z___
+    // Externals with a type or none, and with parameters, a call or neither.
+    - External:E___,8,2 => E___ 8 2
+    3 External:E___,8 => E___ 8 3
+    - External:E___,8 => E___ 8 0
+    1 External:E___,0 => E___ 8 1
+    - External:E___,0 => E___ 0 0
+    - External:E___,1 => E___ 1 0
+";
+
+/// The same where names are shortened.
+const SHORTENED: &str = "
+    - Name:X___,5 Device:D___{ Name:Y___,1 Name:B___,\\X___ Device:M___{ Name:Y___,2 Name:Z___,\\D___.Y___ } } => \
+        X___ 5 D___ Y___ 1 B___ X___ M___ Y___ 2 Z___ ^Y___
+";
+
 #[test]
 fn names_are_spelled(rt: HostRuntime) -> Result<(), Fail> {
     let alloc = rt.alloc();
-    let mut body = Vec::new(alloc);
-    add(&mut body, named_other(alloc, *b"X___", Term::Integer(0))?)?;
-    add(
-        &mut body,
-        named_other(alloc, *b"B___", name(alloc, *b"X___")?)?,
-    )?;
-    add(&mut body, named_other(alloc, *b"Y___", Term::Integer(1))?)?;
-    add(
-        &mut body,
-        named_other(alloc, *b"C___", name(alloc, *b"Y___")?)?,
-    )?;
-    let mut terms = Vec::new(alloc);
-    add(
-        &mut terms,
-        named_form(alloc, Declaration::Device, *b"A___", Vec::new(alloc), body)?,
-    )?;
-    add(&mut terms, named_other(alloc, *b"X___", Term::Integer(2))?)?;
-    add(
-        &mut terms,
-        named_other(alloc, *b"D___", name(alloc, *b"X___")?)?,
-    )?;
-    add(
-        &mut terms,
-        named_other(alloc, *b"P___", package(alloc, &[*b"X___", *b"Z___"])?)?,
-    )?;
-    let seen = spelled(alloc, false, terms, *b"A___", None)?;
-    let wanted =
-        b"A___ X___ 0 B___ \\A___ X___ Y___ 1 C___ Y___ X___ 2 D___ X___ P___ \\X___ \\Z___ ";
-    assert_eq!(rt; seen.as_slice(), wanted.as_slice());
-    Ok(())
-}
-
-// A name from the root.
-fn rooted(alloc: Global, segments: &[NameSeg]) -> Result<Term, AllocError> {
-    let mut segs = Vec::new(alloc);
-    for segment in segments {
-        segs.push(*segment)?;
-    }
-    Ok(Term::Name(Path {
-        root: true,
-        up: 0,
-        segs: Segs::from_vec(alloc, segs)?,
-    }))
-}
-
-// Name (X, 5), Device (D) { Name (Y, 1) Name (B, \X) Device (M) { Name (Y, 2) Name (Z, \D.Y) } }
-#[test]
-fn names_are_shortened(rt: HostRuntime) -> Result<(), Fail> {
-    let alloc = rt.alloc();
-    let mut inner = Vec::new(alloc);
-    add(&mut inner, named_other(alloc, *b"Y___", Term::Integer(2))?)?;
-    add(
-        &mut inner,
-        named_other(alloc, *b"Z___", rooted(alloc, &[*b"D___", *b"Y___"])?)?,
-    )?;
-    let mut body = Vec::new(alloc);
-    add(&mut body, named_other(alloc, *b"Y___", Term::Integer(1))?)?;
-    add(
-        &mut body,
-        named_other(alloc, *b"B___", rooted(alloc, &[*b"X___"])?)?,
-    )?;
-    add(
-        &mut body,
-        named_form(alloc, Declaration::Device, *b"M___", Vec::new(alloc), inner)?,
-    )?;
-    let mut terms = Vec::new(alloc);
-    add(&mut terms, named_other(alloc, *b"X___", Term::Integer(5))?)?;
-    add(
-        &mut terms,
-        named_form(alloc, Declaration::Device, *b"D___", Vec::new(alloc), body)?,
-    )?;
-    let seen = spelled(alloc, true, terms, *b"X___", None)?;
-    let wanted = b"X___ 5 D___ Y___ 1 B___ X___ M___ Y___ 2 Z___ ^Y___ ";
-    assert_eq!(rt; seen.as_slice(), wanted.as_slice());
+    assert_eq!(rt;
+        wrong_row(alloc, Outcome::Spelled { shorten: false }, WRITTEN)?.as_str(),
+        ""
+    );
+    assert_eq!(rt;
+        wrong_row(alloc, Outcome::Spelled { shorten: true }, SHORTENED)?.as_str(),
+        ""
+    );
     Ok(())
 }
 
 // The flags of the path of a name alone, which is named no longer.
 fn taken(alloc: Global, index: &mut Index, path: &Path) -> Result<Vec<bool>, AllocError> {
+    let taken = number_of(index, path);
     let mut flags = Vec::new(alloc);
-    if index.named.len() != index.paths.len() || index.paths.len() == 0 {
-        return Ok(flags);
-    }
-    let taken = denoted_by(index, path, 0).unwrap_or(0);
     for number in 0..index.paths.len() {
         flags.push(number == taken)?;
     }
-    if taken < index.named.len() {
-        index.named[taken] = false;
+    if let Some(named) = index.named.get_mut(taken) {
+        *named = false;
     }
     Ok(flags)
 }
 
-// Name (X, 5), Device (D) { Name (X, 0) Name (B, X) Name (C, \X) } as they are spelled, where \D.X is no object, and a search meets it
-// or not.
-fn spelled_beside(alloc: Global, shorten: bool, is_met: bool) -> Result<Vec<u8>, AllocError> {
-    let mut body = Vec::new(alloc);
-    add(&mut body, named_other(alloc, *b"X___", Term::Integer(0))?)?;
-    add(
-        &mut body,
-        named_other(alloc, *b"B___", name(alloc, *b"X___")?)?,
-    )?;
-    add(
-        &mut body,
-        named_other(alloc, *b"C___", rooted(alloc, &[*b"X___"])?)?,
-    )?;
-    let mut terms = Vec::new(alloc);
-    add(&mut terms, named_other(alloc, *b"X___", Term::Integer(5))?)?;
-    add(
-        &mut terms,
-        named_form(alloc, Declaration::Device, *b"D___", Vec::new(alloc), body)?,
-    )?;
+/// Terms in which \D.X is then no object.
+const BESIDE: &str = "Name:X___,5 Device:D___{ Name:X___,0 Name:B___,X___ Name:C___,\\X___ }";
+
+// Those terms as they are spelled, where a search meets \D.X or not.
+fn spelled_beside(alloc: Global, shorten: bool, is_met: bool) -> Result<String, AllocError> {
+    let terms = terms(alloc, BESIDE)?;
     let BlockNames {
         mut index,
         mentions,
     } = names_of(alloc, &terms)?;
     drop(mentions);
-    let mut out = Vec::new(alloc);
-    if let Term::Name(path) = rooted(alloc, &[*b"D___", *b"X___"])? {
-        let flags = taken(alloc, &mut index, &path)?;
-        let also: &[bool] = if is_met { flags.as_slice() } else { &[] };
-        if index.named.len() == index.paths.len() && also.len() <= index.paths.len() {
-            let spelled = spell(alloc, index, &[], also, shorten, terms)?;
-            write_terms(&mut out, &spelled)?;
-        }
-    }
-    Ok(out)
+    let flags = taken(alloc, &mut index, &path(alloc, "\\D___.X___")?)?;
+    let also: &[bool] = if is_met { flags.as_slice() } else { &[] };
+    spelled(alloc, index, &[], also, shorten, terms)
 }
+
+/// Whether names are shortened, whether a search meets \D.X, and the names and numbers of those terms.
+static MET: [(bool, bool, &str); 4] = [
+    (true, true, "X___ 5 D___ X___ 0 B___ \\X___ C___ \\X___ "),
+    (true, false, "X___ 5 D___ X___ 0 B___ X___ C___ X___ "),
+    (false, true, "X___ 5 D___ X___ 0 B___ \\X___ C___ \\X___ "),
+    (false, false, "X___ 5 D___ X___ 0 B___ X___ C___ \\X___ "),
+];
 
 #[test]
 fn what_is_met_stands_in_the_way(rt: HostRuntime) -> Result<(), Fail> {
     let alloc = rt.alloc();
-    let seen = spelled_beside(alloc, true, true)?;
-    assert_eq!(rt;
-        seen.as_slice(),
-        b"X___ 5 D___ X___ 0 B___ \\X___ C___ \\X___ ".as_slice()
-    );
-    let seen = spelled_beside(alloc, true, false)?;
-    assert_eq!(rt;
-        seen.as_slice(),
-        b"X___ 5 D___ X___ 0 B___ X___ C___ X___ ".as_slice()
-    );
-    let seen = spelled_beside(alloc, false, true)?;
-    assert_eq!(rt;
-        seen.as_slice(),
-        b"X___ 5 D___ X___ 0 B___ \\X___ C___ \\X___ ".as_slice()
-    );
-    let seen = spelled_beside(alloc, false, false)?;
-    assert_eq!(rt;
-        seen.as_slice(),
-        b"X___ 5 D___ X___ 0 B___ X___ C___ \\X___ ".as_slice()
-    );
-    Ok(())
-}
-
-// An External's type, its parameters, the arguments of its first call, and the numbers that are written.
-struct Outside {
-    object: u64,
-    parameters: Option<u64>,
-    first: Option<usize>,
-    written: &'static [u8],
-}
-
-// Externals with a type or none, and with parameters, a call or neither.
-static OUTSIDE: [Outside; 6] = [
-    Outside {
-        object: 8,
-        parameters: Some(2),
-        first: None,
-        written: b"E___ 8 2 ",
-    },
-    Outside {
-        object: 8,
-        parameters: None,
-        first: Some(3),
-        written: b"E___ 8 3 ",
-    },
-    Outside {
-        object: 8,
-        parameters: None,
-        first: None,
-        written: b"E___ 8 0 ",
-    },
-    Outside {
-        object: 0,
-        parameters: None,
-        first: Some(1),
-        written: b"E___ 8 1 ",
-    },
-    Outside {
-        object: 0,
-        parameters: None,
-        first: None,
-        written: b"E___ 0 0 ",
-    },
-    Outside {
-        object: 1,
-        parameters: None,
-        first: None,
-        written: b"E___ 1 0 ",
-    },
-];
-
-// What is written of an External.
-fn written(alloc: Global, case: &Outside) -> Result<Vec<u8>, AllocError> {
-    let mut numbers = Vec::new(alloc);
-    add(&mut numbers, Term::Integer(case.object))?;
-    if let Some(count) = case.parameters {
-        add(&mut numbers, Term::Integer(count))?;
-    }
-    let mut terms = Vec::new(alloc);
-    add(
-        &mut terms,
-        named_form(
-            alloc,
-            Declaration::External,
-            *b"E___",
-            numbers,
-            Vec::new(alloc),
-        )?,
-    )?;
-    spelled(alloc, false, terms, *b"E___", case.first)
-}
-
-#[test]
-fn externals_say_type_and_arity(rt: HostRuntime) -> Result<(), Fail> {
-    let alloc = rt.alloc();
-    for case in &OUTSIDE {
-        assert_eq!(rt; written(alloc, case)?.as_slice(), case.written);
+    for (shorten, is_met, want) in &MET {
+        assert_eq!(rt; spelled_beside(alloc, *shorten, *is_met)?.as_str(), *want);
     }
     Ok(())
 }

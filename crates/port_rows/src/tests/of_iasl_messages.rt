@@ -9,22 +9,23 @@ use iasl_messages::texts::text_of;
 use iasl_ports::list::{List, Text, Texts};
 use std::alloc::{AllocError, Global};
 
-fn add(
-    alloc: Global,
-    list: &mut Messages,
-    number: u16,
-    place: (u32, u32, u32),
-    name: &str,
-) -> Result<(), AllocError> {
-    list.push(Message {
-        number,
-        place: Place {
-            file: place.0,
-            line: place.1,
-            column: place.2,
-        },
-        name: Text::from_bytes(alloc, name.as_bytes())?,
-    })
+/// A message: its number, its file, line and column, and its name.
+type Row = (u16, u32, u32, u32, &'static str);
+
+fn messages(alloc: Global, rows: &[Row]) -> Result<Messages, AllocError> {
+    let mut list = List::new(alloc);
+    for (number, file, line, column, name) in rows {
+        list.push(Message {
+            number: *number,
+            place: Place {
+                file: *file,
+                line: *line,
+                column: *column,
+            },
+            name: Text::from_bytes(alloc, name.as_bytes())?,
+        })?;
+    }
+    Ok(list)
 }
 
 fn names(alloc: Global) -> Result<Texts, AllocError> {
@@ -50,72 +51,80 @@ fn shown(alloc: Global, list: Messages, brief: bool) -> Result<Text, AllocError>
     }
 }
 
-fn two_errors(alloc: Global) -> Result<Messages, AllocError> {
-    let mut list = List::new(alloc);
-    add(alloc, &mut list, 6041, (0, 5, 26), "Y___")?;
-    add(alloc, &mut list, 6040, (0, 4, 23), "\\D___.X___")?;
-    Ok(list)
-}
+const TWO: [Row; 2] = [(6041, 0, 5, 26, "Y___"), (6040, 0, 4, 23, "\\D___.X___")];
+
+/// Messages, whether they are shown briefly, and their text.
+static SHOWN: [(&[Row], bool, &str); 3] = [
+    (
+        &TWO,
+        false,
+        "t.asl:4:23: error 6040: name is declared twice: \\D___.X___\nt.asl:5:26: error 6041: name is not found: Y___\n",
+    ),
+    (
+        &TWO,
+        true,
+        "t.asl(4) : error 6040 : name is declared twice\nt.asl(5) : error 6041 : name is not found\n",
+    ),
+    (
+        &[
+            (6002, 0, 1, 1, "t.asl"),
+            (2001, 1, 1, 1, ""),
+            (3003, 0, 1, 1, "b"),
+            (3003, 0, 1, 1, "a"),
+            (6015, 0, 10, 2, ""),
+            (6015, 0, 3, 16, ""),
+        ],
+        false,
+        "t.asl:1:1: warning 3003: name is never used: a\nt.asl:1:1: warning 3003: name is never used: b\n\
+            t.asl:1:1: error 6002: includes are nested too deep: t.asl\nt.asl:3:16: error 6015: syntax\n\
+            t.asl:10:2: error 6015: syntax\ndir/b.asl:1:1: remark 2001: message\n",
+    ),
+];
+
+/// Messages, and the line that sums them up.
+static SUMMARIES: [(&[Row], &str); 3] = [
+    (&[], "0 errors, 0 warnings, 0 remarks\n"),
+    (&[(6015, 0, 3, 16, "")], "1 errors, 0 warnings, 0 remarks\n"),
+    (&FOUR, "1 errors, 2 warnings, 1 remarks\n"),
+];
+
+const FOUR: [Row; 4] = [
+    (6015, 0, 3, 16, ""),
+    (3004, 0, 3, 16, "x"),
+    (2002, 0, 3, 16, ""),
+    (3005, 0, 3, 16, ""),
+];
 
 #[test]
 fn messages_stand_on_the_console(rt: HostRuntime) -> Result<(), AllocError> {
     let alloc = rt.alloc();
-    let full = shown(alloc, two_errors(alloc)?, false)?;
-    assert!(rt;
-        full.as_bytes()
-            == "t.asl:4:23: error 6040: name is declared twice: \\D___.X___\nt.asl:5:26: error 6041: name is not found: Y___\n".as_bytes()
-    );
-    let brief = shown(alloc, two_errors(alloc)?, true)?;
-    assert!(rt;
-        brief.as_bytes()
-            == "t.asl(4) : error 6040 : name is declared twice\nt.asl(5) : error 6041 : name is not found\n".as_bytes()
-    );
-    let mut list = List::new(alloc);
-    add(alloc, &mut list, 6002, (0, 1, 1), "t.asl")?;
-    add(alloc, &mut list, 2001, (1, 1, 1), "")?;
-    add(alloc, &mut list, 3003, (0, 1, 1), "b")?;
-    add(alloc, &mut list, 3003, (0, 1, 1), "a")?;
-    add(alloc, &mut list, 6015, (0, 10, 2), "")?;
-    add(alloc, &mut list, 6015, (0, 3, 16), "")?;
-    let all = shown(alloc, list, false)?;
-    assert!(rt;
-        all.as_bytes()
-            == "t.asl:1:1: warning 3003: name is never used: a\nt.asl:1:1: warning 3003: name is never used: b\n\
-                t.asl:1:1: error 6002: includes are nested too deep: t.asl\nt.asl:3:16: error 6015: syntax\n\
-                t.asl:10:2: error 6015: syntax\ndir/b.asl:1:1: remark 2001: message\n"
-                .as_bytes()
-    );
+    for (rows, brief, want) in &SHOWN {
+        let text = shown(alloc, messages(alloc, rows)?, *brief)?;
+        assert!(rt; text.as_bytes() == want.as_bytes(), "at {want}");
+    }
+    for (rows, want) in &SUMMARIES {
+        let line = summary(alloc, &messages(alloc, rows)?)?;
+        assert!(rt; line.as_bytes() == want.as_bytes(), "at {want}");
+    }
+    assert!(rt; count_of(&messages(alloc, &FOUR)?, Severity::Warning) == 2);
     Ok(())
 }
 
 #[test]
 fn other_lines_of_the_console(rt: HostRuntime) -> Result<(), AllocError> {
     let alloc = rt.alloc();
-    let none = List::new(alloc);
-    let line = summary(alloc, &none)?;
-    assert!(rt; line.as_bytes() == "0 errors, 0 warnings, 0 remarks\n".as_bytes());
-    let mut list = List::new(alloc);
-    add(alloc, &mut list, 6015, (0, 3, 16), "")?;
-    let line = summary(alloc, &list)?;
-    assert!(rt; line.as_bytes() == "1 errors, 0 warnings, 0 remarks\n".as_bytes());
-    add(alloc, &mut list, 3004, (0, 3, 16), "x")?;
-    add(alloc, &mut list, 2002, (0, 3, 16), "")?;
-    add(alloc, &mut list, 3005, (0, 3, 16), "")?;
-    let line = summary(alloc, &list)?;
-    assert!(rt; line.as_bytes() == "1 errors, 2 warnings, 1 remarks\n".as_bytes());
-    assert!(rt; count_of(&list, Severity::Warning) == 2);
-    let line = table_line(alloc, b"t.aml", b"SSDT", 43)?;
-    assert!(rt; line.as_bytes() == "t.aml: SSDT, 43 bytes\n".as_bytes());
-    let line = listed_line(alloc, b"SSDT", 36)?;
-    assert!(rt; line.as_bytes() == "SSDT 36 bytes\n".as_bytes());
-    let line = preprocessed_line(alloc, b"t.i")?;
-    assert!(rt; line.as_bytes() == "t.i: preprocessed\n".as_bytes());
-    let line = devices_line(alloc, 2)?;
-    assert!(rt; line.as_bytes() == "generated: 2 devices\n".as_bytes());
+    let table = table_line(alloc, b"t.aml", b"SSDT", 43)?;
+    assert!(rt; table.as_bytes() == "t.aml: SSDT, 43 bytes\n".as_bytes());
+    let listed = listed_line(alloc, b"SSDT", 36)?;
+    assert!(rt; listed.as_bytes() == "SSDT 36 bytes\n".as_bytes());
+    let preprocessed = preprocessed_line(alloc, b"t.i")?;
+    assert!(rt; preprocessed.as_bytes() == "t.i: preprocessed\n".as_bytes());
+    let devices = devices_line(alloc, 2)?;
+    assert!(rt; devices.as_bytes() == "generated: 2 devices\n".as_bytes());
     Ok(())
 }
 
-// The number of a message, and its text.
+/// The number of a message, and its text.
 static TEXTS: [(u16, &str); 7] = [
     (6028, "no definition block"),
     (6097, "bad locality matrix"),

@@ -13,6 +13,15 @@ fn fetch_len<F: Files>(files: &mut F, alloc: Global, name: &str) -> Result<usize
     Ok(files.fetch(alloc, name)?.len())
 }
 
+/// Names of files, and how many bytes each fetch has, in order: the second and the fourth fetch fail.
+static FETCHES: [(&str, Result<usize, FetchFault>); 5] = [
+    ("a", Ok(3)),
+    ("a", Err(FetchFault::Failed)),
+    ("b", Err(FetchFault::Absent)),
+    ("a", Err(FetchFault::Failed)),
+    ("a", Ok(3)),
+];
+
 #[test]
 fn fetches_fail_when_told_to(rt: HostRuntime) -> Result<(), AllocError> {
     let mut files = MemoryFiles::new(rt.alloc());
@@ -20,11 +29,9 @@ fn fetches_fail_when_told_to(rt: HostRuntime) -> Result<(), AllocError> {
     files.add("a", b"other")?;
     files.fail_at(2)?;
     files.fail_at(4)?;
-    assert!(rt; fetch_len(&mut files, rt.alloc(), "a") == Ok(3));
-    assert!(rt; fetch_len(&mut files, rt.alloc(), "a") == Err(FetchFault::Failed));
-    assert!(rt; fetch_len(&mut files, rt.alloc(), "b") == Err(FetchFault::Absent));
-    assert!(rt; fetch_len(&mut files, rt.alloc(), "a") == Err(FetchFault::Failed));
-    assert!(rt; fetch_len(&mut files, rt.alloc(), "a") == Ok(3));
+    for (name, want) in &FETCHES {
+        assert!(rt; fetch_len(&mut files, rt.alloc(), name) == *want);
+    }
     Ok(())
 }
 
@@ -46,13 +53,20 @@ fn a_failing_put_leaves_half(rt: HostRuntime) -> Result<(), AllocError> {
     Ok(())
 }
 
+/// What is written on a console with room for five bytes, and how that ends: the second write fails.
+static WRITES: [(&[u8], Result<(), SinkFault>); 3] = [
+    (b"abc", Ok(())),
+    (b"d", Err(SinkFault)),
+    (b"def", Err(SinkFault)),
+];
+
 #[test]
 fn a_console_takes_what_it_has_room_for(rt: HostRuntime) -> Result<(), AllocError> {
     let mut sink = MemorySink::new(rt.alloc(), 5)?;
     sink.fail_at(2)?;
-    assert!(rt; write_all(&mut sink, b"abc") == Ok(()));
-    assert!(rt; write_all(&mut sink, b"d") == Err(SinkFault));
-    assert!(rt; write_all(&mut sink, b"def") == Err(SinkFault));
+    for (bytes, want) in &WRITES {
+        assert!(rt; write_all(&mut sink, bytes) == *want);
+    }
     assert!(rt; sink.as_bytes() == b"abcde".as_slice());
     Ok(())
 }
@@ -137,6 +151,12 @@ fn two_files(alloc: Global) -> Result<Due<'static>, AllocError> {
 // A text of no byte, one of some, the longest that stands in place, and one byte more.
 static TEXTS: [&[u8]; 4] = [b"", b"_Abz09\\.^{z", b"abcdefghijklmn", b"abcdefghijklmno"];
 
+/// Bytes, and the same in capitals.
+static CAPITALS: [(&[u8], &[u8]); 2] = [
+    (b"_ab.z09[`{", b"_AB.Z09[`{"),
+    (b"\\abcd.efgh.ijkl", b"\\ABCD.EFGH.IJKL"),
+];
+
 fn keeps(alloc: Global, bytes: &[u8]) -> Result<bool, AllocError> {
     let text = Text::from_bytes(alloc, bytes)?;
     Ok(text.as_bytes() == bytes)
@@ -148,10 +168,9 @@ fn texts_of_every_length_keep_their_bytes(rt: HostRuntime) -> Result<(), AllocEr
     for bytes in &TEXTS {
         assert!(rt; keeps(alloc, bytes)?);
     }
-    let short = Text::from_uppercase(alloc, b"_ab.z09[`{")?;
-    assert!(rt; short.as_bytes() == b"_AB.Z09[`{".as_slice());
-    let long = Text::from_uppercase(alloc, b"\\abcd.efgh.ijkl")?;
-    assert!(rt; long.as_bytes() == b"\\ABCD.EFGH.IJKL".as_slice());
+    for (bytes, want) in &CAPITALS {
+        assert!(rt; Text::from_uppercase(alloc, bytes)?.as_bytes() == *want);
+    }
     Ok(())
 }
 

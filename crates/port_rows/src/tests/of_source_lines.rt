@@ -3,83 +3,63 @@ use iasl_ports::list::Text;
 use source_lines::lines::{SourceLines, text_at};
 use std::alloc::{AllocError, Global};
 
-fn line(alloc: Global, file: u32, number: u32, text: &[u8]) -> Result<Line, AllocError> {
-    Ok(Line {
-        file,
-        number,
-        text: Text::from_bytes(alloc, text)?,
-    })
-}
+/// Lines, each with its file, its number and its text; two have the same file and number.
+static LINES: [(u32, u32, &[u8]); 4] = [
+    (0, 1, b"first"),
+    (1, 1, b"of the other file"),
+    (0, 1, b"first again"),
+    (0, 2, b"second"),
+];
 
-// Lines with the file and the number of each; two lines have the same.
-fn lines(alloc: Global) -> Result<LineList, AllocError> {
+/// Files, numbers and columns, and the text of the line there.
+static PLACES: [(u32, u32, u32, &[u8]); 7] = [
+    (0, 1, 1, b"first"),
+    (0, 1, 7, b"first"),
+    (1, 1, 1, b"of the other file"),
+    (0, 2, 1, b"second"),
+    (0, 3, 1, b""),
+    (1, 2, 1, b""),
+    (2, 1, 1, b""),
+];
+
+/// Lines in the order of their files and numbers, of which some are left out.
+static ASCENDING_LINES: [(u32, u32, &[u8]); 7] = [
+    (0, 2, b"second"),
+    (0, 3, b"third"),
+    (0, 7, b"seventh"),
+    (0, 8, b""),
+    (1, 1, b"of the second file"),
+    (3, 4, b"of the fourth file"),
+    (3, 5, b"last"),
+];
+
+/// Files, numbers and columns, and the text of the line there.
+static ASCENDING: [(u32, u32, u32, &[u8]); 12] = [
+    (0, 0, 1, b""),
+    (0, 1, 1, b""),
+    (0, 2, 1, b"second"),
+    (0, 3, 1, b"third"),
+    (0, 4, 1, b""),
+    (0, 7, 1, b"seventh"),
+    (1, 1, 1, b"of the second file"),
+    (2, 1, 1, b""),
+    (3, 4, 1, b"of the fourth file"),
+    (3, 5, 1, b"last"),
+    (3, 6, 1, b""),
+    (4, 1, 1, b""),
+];
+
+fn lines(alloc: Global, rows: &[(u32, u32, &[u8])]) -> Result<LineList, AllocError> {
     let mut lines = LineList::new(alloc);
-    lines.push(line(alloc, 0, 1, b"first")?)?;
-    lines.push(line(alloc, 1, 1, b"of the other file")?)?;
-    lines.push(line(alloc, 0, 1, b"first again")?)?;
-    lines.push(line(alloc, 0, 2, b"second")?)?;
+    for (file, number, text) in rows {
+        lines.push(Line {
+            file: *file,
+            number: *number,
+            text: Text::from_bytes(alloc, text)?,
+        })?;
+    }
     Ok(lines)
 }
-
-// A place, and the text of its line.
-static PLACES: [(Place, &[u8]); 7] = [
-    (
-        Place {
-            file: 0,
-            line: 1,
-            column: 1,
-        },
-        b"first",
-    ),
-    (
-        Place {
-            file: 0,
-            line: 1,
-            column: 7,
-        },
-        b"first",
-    ),
-    (
-        Place {
-            file: 1,
-            line: 1,
-            column: 1,
-        },
-        b"of the other file",
-    ),
-    (
-        Place {
-            file: 0,
-            line: 2,
-            column: 1,
-        },
-        b"second",
-    ),
-    (
-        Place {
-            file: 0,
-            line: 3,
-            column: 1,
-        },
-        b"",
-    ),
-    (
-        Place {
-            file: 1,
-            line: 2,
-            column: 1,
-        },
-        b"",
-    ),
-    (
-        Place {
-            file: 2,
-            line: 1,
-            column: 1,
-        },
-        b"",
-    ),
-];
 
 // Whether the line of a place has this text, also where it is sought without an index.
 fn has_text(
@@ -93,55 +73,33 @@ fn has_text(
     Ok(found.as_bytes() == text && text_at(lines, place) == text)
 }
 
-#[test]
-fn first_line_of_a_place(rt: HostRuntime) -> Result<(), AllocError> {
-    let lines = lines(rt.alloc())?;
-    let index = SourceLines::new(rt.alloc(), lines.as_slice())?;
-    for (place, text) in &PLACES {
-        assert!(rt; has_text(rt.alloc(), lines.as_slice(), &index, *place, text)?);
-    }
-    Ok(())
-}
-
-// Lines in the order of their files and numbers, of which some are left out.
-fn ascending_lines(alloc: Global) -> Result<LineList, AllocError> {
-    let mut lines = LineList::new(alloc);
-    lines.push(line(alloc, 0, 2, b"second")?)?;
-    lines.push(line(alloc, 0, 3, b"third")?)?;
-    lines.push(line(alloc, 0, 7, b"seventh")?)?;
-    lines.push(line(alloc, 0, 8, b"")?)?;
-    lines.push(line(alloc, 1, 1, b"of the second file")?)?;
-    lines.push(line(alloc, 3, 4, b"of the fourth file")?)?;
-    lines.push(line(alloc, 3, 5, b"last")?)?;
-    Ok(lines)
-}
-
-static ASCENDING: [(u32, u32, &[u8]); 12] = [
-    (0, 0, b""),
-    (0, 1, b""),
-    (0, 2, b"second"),
-    (0, 3, b"third"),
-    (0, 4, b""),
-    (0, 7, b"seventh"),
-    (1, 1, b"of the second file"),
-    (2, 1, b""),
-    (3, 4, b"of the fourth file"),
-    (3, 5, b"last"),
-    (3, 6, b""),
-    (4, 1, b""),
-];
-
-#[test]
-fn lines_in_order(rt: HostRuntime) -> Result<(), AllocError> {
-    let lines = ascending_lines(rt.alloc())?;
-    let index = SourceLines::new(rt.alloc(), lines.as_slice())?;
-    for (file, line, text) in &ASCENDING {
+// The first of some places whose line has another text.
+fn wrong_place(
+    alloc: Global,
+    rows: &[(u32, u32, &[u8])],
+    places: &[(u32, u32, u32, &[u8])],
+) -> Result<Option<Place>, AllocError> {
+    let lines = lines(alloc, rows)?;
+    let index = SourceLines::new(alloc, lines.as_slice())?;
+    for (file, line, column, text) in places {
         let place = Place {
             file: *file,
             line: *line,
-            column: 1,
+            column: *column,
         };
-        assert!(rt; has_text(rt.alloc(), lines.as_slice(), &index, place, text)?);
+        if !has_text(alloc, lines.as_slice(), &index, place, text)? {
+            return Ok(Some(place));
+        }
     }
+    Ok(None)
+}
+
+#[test]
+fn lines_of_places(rt: HostRuntime) -> Result<(), AllocError> {
+    assert_eq!(rt; wrong_place(rt.alloc(), &LINES, &PLACES)?, None);
+    assert_eq!(rt;
+        wrong_place(rt.alloc(), &ASCENDING_LINES, &ASCENDING)?,
+        None
+    );
     Ok(())
 }

@@ -1,47 +1,65 @@
-use field_layout::layout::{FieldItem, FieldItems, LayoutStop, layout};
+use field_layout::layout::{FieldItem, FieldItems, LayoutStop, Unit, layout};
 use field_layout::segments::{Segment, SegmentStop, SerialItem, SerialItems, segments};
 use std::alloc::{AllocError, Global};
 
-#[test]
-fn units_and_faults(rt: HostRuntime) -> Result<(), AllocError> {
-    let mut items = FieldItems::new(rt.alloc());
-    items.push(FieldItem::Unit { name: 1, bits: 12 })?;
-    items.push(FieldItem::Unit { name: 2, bits: 8 })?;
-    items.push(FieldItem::Unit { name: 3, bits: 12 })?;
-    match layout(rt.alloc(), &items, 2, Some(4)) {
-        Ok(units) => {
-            assert!(rt; units.len() == 3);
-            match units.get(1) {
-                Some(unit) => assert!(rt; unit.name == 2 && unit.at == 12 && unit.bits == 8),
-                None => assert!(rt; false),
-            }
-        }
-        Err(_) => assert!(rt; false),
+/// The items of a list, the access and the length of its region in bytes, and the second of its three units, or the item and the number
+/// of its fault.
+static LAYOUTS: [(&[FieldItem], u8, Option<u64>, Result<Unit, (u32, u16)>); 3] = [
+    (
+        &TWELVE,
+        2,
+        Some(4),
+        Ok(Unit {
+            name: 2,
+            at: 12,
+            bits: 8,
+        }),
+    ),
+    (&TWELVE, 8, Some(4), Err((3, 6072))),
+    (
+        &[
+            FieldItem::Unit { name: 1, bits: 8 },
+            FieldItem::Offset { bytes: 0 },
+            FieldItem::Unit { name: 2, bits: 8 },
+        ],
+        1,
+        None,
+        Err((1, 6070)),
+    ),
+];
+
+const TWELVE: [FieldItem; 3] = [
+    FieldItem::Unit { name: 1, bits: 12 },
+    FieldItem::Unit { name: 2, bits: 8 },
+    FieldItem::Unit { name: 3, bits: 12 },
+];
+
+// The second of three units of a list, or its fault.
+fn second_unit(
+    alloc: Global,
+    list: &[FieldItem],
+    access: u8,
+    region: Option<u64>,
+) -> Result<Result<Unit, (u32, u16)>, AllocError> {
+    let mut items = FieldItems::new(alloc);
+    for item in list {
+        items.push(*item)?;
     }
-    let narrow = layout(rt.alloc(), &items, 8, Some(4));
-    assert!(rt;
-        matches!(
-            &narrow,
-            Err(LayoutStop::Fault {
-                item: 3,
-                number: 6072
-            })
-        )
-    );
-    let mut back = FieldItems::new(rt.alloc());
-    back.push(FieldItem::Unit { name: 1, bits: 8 })?;
-    back.push(FieldItem::Offset { bytes: 0 })?;
-    back.push(FieldItem::Unit { name: 2, bits: 8 })?;
-    let goes_back = layout(rt.alloc(), &back, 1, None);
-    assert!(rt;
-        matches!(
-            &goes_back,
-            Err(LayoutStop::Fault {
-                item: 1,
-                number: 6070
-            })
-        )
-    );
+    if items.len() > 99 {
+        return Ok(Err((0, 1)));
+    }
+    match layout(alloc, &items, access, region) {
+        Ok(units) if units.len() == 3 => Ok(units.get(1).copied().ok_or((0, 2))),
+        Err(LayoutStop::Fault { item, number }) => Ok(Err((item, number))),
+        _ => Ok(Err((0, 3))),
+    }
+}
+
+#[test]
+fn units_have_their_places(rt: HostRuntime) -> Result<(), AllocError> {
+    for (list, access, region, want) in &LAYOUTS {
+        assert!(rt; second_unit(rt.alloc(), list, *access, *region)? == *want);
+    }
     Ok(())
 }
 
@@ -75,8 +93,8 @@ fn listed(alloc: Global, list: &[SerialItem]) -> Result<SerialItems, AllocError>
     Ok(items)
 }
 
-// The items of a list, the space of its region, and the number and the place of its fault, or zeros. Of two faults at one unit the lesser
-// number is told.
+/// The items of a list, the space of its region, and the number and the place of its fault, or zeros. Of two faults at one unit the lesser
+/// number is told.
 static LISTS: [(&[SerialItem], u8, (u16, u32)); 11] = [
     (&[UNIT, BYTES, UNIT], 9, (6073, 0)),
     (&[CONNECTED, UNIT], 4, (6073, 1)),
@@ -103,66 +121,69 @@ fn fault_of(alloc: Global, list: &[SerialItem], space: u8) -> Result<(u16, u32),
     }
 }
 
-#[test]
-fn units_fit_their_spaces(rt: HostRuntime) -> Result<(), AllocError> {
-    for (list, space, want) in &LISTS {
-        assert!(rt; fault_of(rt.alloc(), list, *space)? == *want);
-    }
-    Ok(())
-}
-
-// The place of a unit, its access, attribute and length, and its connection.
-type Unit = (u32, u8, u8, u8, Option<u32>);
-
-// A list whose field has access 5, and its units.
-static UNITS: [(&[SerialItem], &[Unit]); 3] = [
+/// A list whose field has access 5, and its units.
+static UNITS: [(&[SerialItem], &[Segment]); 3] = [
     (
         &[UNIT, BYTES, CONNECTED, UNIT],
-        &[(0, 5, 0, 0, None), (3, 5, 11, 16, Some(7))],
+        &[
+            Segment {
+                unit: 0,
+                access: 5,
+                attribute: 0,
+                length: 0,
+                connection: None,
+            },
+            Segment {
+                unit: 3,
+                access: 5,
+                attribute: 11,
+                length: 16,
+                connection: Some(7),
+            },
+        ],
     ),
     // The last of two accesses and of two connections counts, and neither takes the other away.
     (
         &[
             BYTE, CONNECTED, BYTES, ELSEWHERE, SKIP, OFFSET, UNIT, CONNECTED, BYTES, UNIT,
         ],
-        &[(6, 5, 11, 16, Some(0)), (9, 5, 11, 16, Some(7))],
+        &[
+            Segment {
+                unit: 6,
+                access: 5,
+                attribute: 11,
+                length: 16,
+                connection: Some(0),
+            },
+            Segment {
+                unit: 9,
+                access: 5,
+                attribute: 11,
+                length: 16,
+                connection: Some(7),
+            },
+        ],
     ),
     (&[BYTES, CONNECTED], &[]),
 ];
 
 // Whether a list of a field with access 5 comes to these units.
-fn comes_to(alloc: Global, list: &[SerialItem], want: &[Unit]) -> Result<bool, AllocError> {
+fn comes_to(alloc: Global, list: &[SerialItem], want: &[Segment]) -> Result<bool, AllocError> {
     let items = listed(alloc, list)?;
     if items.len() > 99 {
         return Ok(false);
     }
     match segments(alloc, &items, 7, 5) {
-        Ok(units) => Ok(are_units(units.as_slice(), want)),
+        Ok(units) => Ok(units.as_slice() == want),
         Err(_) => Ok(false),
     }
 }
 
-fn are_units(units: &[Segment], want: &[Unit]) -> bool {
-    if units.len() != want.len() {
-        return false;
-    }
-    for (unit, (place, access, attribute, length, connection)) in units.iter().zip(want) {
-        let one = Segment {
-            unit: *place,
-            access: *access,
-            attribute: *attribute,
-            length: *length,
-            connection: *connection,
-        };
-        if *unit != one {
-            return false;
-        }
-    }
-    true
-}
-
 #[test]
-fn units_are_accessed_as_the_last_word_says(rt: HostRuntime) -> Result<(), AllocError> {
+fn units_have_their_accesses_and_faults(rt: HostRuntime) -> Result<(), AllocError> {
+    for (list, space, want) in &LISTS {
+        assert!(rt; fault_of(rt.alloc(), list, *space)? == *want);
+    }
     for (list, want) in &UNITS {
         assert!(rt; comes_to(rt.alloc(), list, want)?);
     }

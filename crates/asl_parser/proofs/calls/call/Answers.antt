@@ -1,7 +1,7 @@
 use Rattle.std.proofs.Common.{List, ap}
-use Rattle.asl_parser.specs.declared.subtree.Subtrees.{Subtrees}
-use Rattle.asl_parser.specs.declared.frame.Frame.{Frame}
-use Rattle.asl_parser.specs.Marks.{mark, marks}
+use Rattle.asl_syntax.specs.declared.subtree.Subtrees.{Subtrees}
+use Rattle.asl_syntax.specs.declared.frame.Frame.{Frame}
+use Rattle.asl_syntax.specs.Marks.{mark, marks}
 use Rattle.asl_parser.proofs.Calling.{closed_over, open_over, open_holds}
 use Rattle.asl_parser.proofs.calls.call.Goals as goal
 

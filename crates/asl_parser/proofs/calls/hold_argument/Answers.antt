@@ -1,5 +1,5 @@
 use Rattle.std.proofs.Common.{suc, Bool, refl, subst}
-use Rattle.asl_parser.specs.Marks.{mark}
+use Rattle.asl_syntax.specs.Marks.{mark}
 use Rattle.asl_parser.specs.Pairs.{plain, HoldsNode}
 use Rattle.asl_parser.proofs.Calling.{argument_held}
 use Rattle.asl_parser.proofs.calls.hold_argument.Goals as goal

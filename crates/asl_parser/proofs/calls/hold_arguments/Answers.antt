@@ -1,10 +1,10 @@
 use Rattle.std.proofs.Common.{suc, List, [], ◌∷◌, refl, sym, subst, arith}
 use Rattle.asl_parser.specs.declared.calls.Arguments.{Arguments}
 use Rattle.asl_parser.specs.declared.calls.Arguments.TheVariants as a
-use Rattle.asl_parser.specs.declared.subtree.Subtrees.{Subtrees}
-use Rattle.asl_parser.specs.declared.frame.Frame.{Frame}
+use Rattle.asl_syntax.specs.declared.subtree.Subtrees.{Subtrees}
+use Rattle.asl_syntax.specs.declared.frame.Frame.{Frame}
 use Rattle.asl_parser.specs.Calls.{HoldsArgument, Reads}
-use Rattle.asl_parser.specs.Marks.{mark, marks}
+use Rattle.asl_syntax.specs.Marks.{mark, marks}
 use Rattle.asl_parser.proofs.Calling.{unread_on, reads_none, reads_on}
 use Rattle.asl_parser.proofs.calls.hold_arguments.Goals as goal
 

@@ -1,6 +1,6 @@
 use Rattle.std.proofs.Common.{◌≡◌, ◌-◌, ◌≤◌, true, length}
 use Rattle.asl_parser.specs.Calls.{may_go_on, Reads}
-use Rattle.asl_parser.specs.Marks.{marks}
+use Rattle.asl_syntax.specs.Marks.{marks}
 use Rattle.asl_parser.proofs.calls.hold_arguments.Given as goal
 
 abbrev pub invariant-loop-at : goal.invariant-loop-at

@@ -1,5 +1,5 @@
 use Rattle.std.proofs.Common.{sym, ◌∙◌}
-use Rattle.asl_parser.specs.Opens.{tree_of}
+use Rattle.asl_syntax.specs.Opens.{tree_of}
 use Rattle.asl_parser.proofs.Settled.{index_closes}
 use Rattle.asl_parser.proofs.machine.close_index.Goals as goal
 

@@ -1,10 +1,10 @@
 use Rattle.std.proofs.Common.{◌≡◌, List, sym, ◌∙◌, subst}
-use Rattle.asl_parser.specs.declared.subtree.Subtrees.{Subtrees}
-use Rattle.asl_parser.specs.declared.frame.Frame.{Frame}
-use Rattle.asl_parser.specs.declared.frame.ParserState.TheVariants as st
+use Rattle.asl_syntax.specs.declared.subtree.Subtrees.{Subtrees}
+use Rattle.asl_syntax.specs.declared.frame.Frame.{Frame}
+use Rattle.asl_parser.specs.declared.state.ParserState.TheVariants as st
 use Rattle.asl_parser.specs.declared.stage.Stage.{Stage}
 use Rattle.asl_parser.specs.declared.stage.Stage.TheVariants as g
-use Rattle.asl_parser.specs.Opens.{tree_of}
+use Rattle.asl_syntax.specs.Opens.{tree_of}
 use Rattle.asl_parser.specs.Stages.{BeginsNext, state_of}
 use Rattle.asl_parser.proofs.Next.{next_called, next_whole}
 use Rattle.asl_parser.proofs.machine.end_expression.Goals as goal

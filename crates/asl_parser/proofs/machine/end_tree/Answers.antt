@@ -1,6 +1,6 @@
 use Rattle.std.proofs.Common.{refl, sym, ◌∙◌}
-use Rattle.asl_parser.specs.declared.open.FrameKind.TheVariants as k
-use Rattle.asl_parser.specs.Opens.{tree_of}
+use Rattle.asl_syntax.specs.declared.open.FrameKind.TheVariants as k
+use Rattle.asl_syntax.specs.Opens.{tree_of}
 use Rattle.asl_parser.proofs.Next.{next_begins, next_refused, not_follows}
 use Rattle.asl_parser.proofs.machine.end_tree.Goals as goal
 

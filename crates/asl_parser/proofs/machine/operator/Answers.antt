@@ -1,8 +1,8 @@
 use Rattle.std.proofs.Common.{List, ap, arith}
-use Rattle.asl_parser.specs.declared.subtree.Subtrees.{Subtrees}
-use Rattle.asl_parser.specs.declared.frame.Frame.{Frame}
+use Rattle.asl_syntax.specs.declared.subtree.Subtrees.{Subtrees}
+use Rattle.asl_syntax.specs.declared.frame.Frame.{Frame}
 use Rattle.asl_parser.specs.Machine.{settle}
-use Rattle.asl_parser.specs.Opens.{tree_of}
+use Rattle.asl_syntax.specs.Opens.{tree_of}
 use Rattle.asl_parser.proofs.Settled.{operator_opens}
 use Rattle.asl_parser.proofs.machine.operator.Goals as goal
 

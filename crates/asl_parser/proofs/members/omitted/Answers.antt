@@ -1,9 +1,9 @@
 use Rattle.std.proofs.Common.{ap, subst, sym, ◌∙◌}
-use Rattle.asl_parser.specs.declared.subtree.Subtree.{Subtree}
-use Rattle.asl_parser.specs.declared.raw.Raw.TheVariants as raw
-use Rattle.asl_parser.specs.Grow.{leaf}
+use Rattle.asl_syntax.specs.declared.subtree.Subtree.{Subtree}
+use Rattle.asl_syntax.specs.declared.raw.Raw.TheVariants as raw
+use Rattle.asl_syntax.specs.Grow.{leaf}
 use Rattle.asl_parser.specs.Machine.{listed}
-use Rattle.asl_parser.specs.Looks.{lexeme_of}
+use Rattle.asl_syntax.specs.Looks.{lexeme_of}
 use Rattle.asl_parser.specs.Stages.{StepsTo}
 use Rattle.asl_parser.proofs.Settled.{omits}
 use Rattle.asl_parser.proofs.members.omitted.Goals as goal

@@ -1,4 +1,4 @@
-use Rattle.asl_parser.specs.Marks.{mark}
+use Rattle.asl_syntax.specs.Marks.{mark}
 use Rattle.asl_parser.specs.Pairs.{plain}
 use Rattle.asl_parser.proofs.Operating.{applies_node}
 use Rattle.asl_parser.proofs.operators.apply_plain.Goals as goal

@@ -1,9 +1,9 @@
 use Rattle.std.proofs.Common.{◌≡◌, ◌+◌, suc, ◌<◌, ◌≤◌, Bool, sym, ap, ◌∙◌, subst, arith}
-use Rattle.asl_parser.specs.declared.mark.Lexeme.TheVariants as l
-use Rattle.asl_parser.specs.declared.sign.Sign.TheVariants as s
-use Rattle.asl_parser.specs.Grow.{limit}
-use Rattle.asl_parser.specs.Machine.{depth, room}
-use Rattle.asl_parser.specs.Marks.{mark, lexeme}
+use Rattle.asl_syntax.specs.declared.mark.Lexeme.TheVariants as l
+use Rattle.asl_syntax.specs.declared.sign.Sign.TheVariants as s
+use Rattle.asl_syntax.specs.Grow.{limit}
+use Rattle.asl_syntax.specs.Frames.{depth, room}
+use Rattle.asl_syntax.specs.Marks.{mark, lexeme}
 use Rattle.asl_parser.specs.Operating.{AppliesNode}
 use Rattle.asl_parser.specs.Pairs.{plain, HoldsNode}
 use Rattle.asl_parser.proofs.Bracketed.{held_one, applies_one, bracket_on}

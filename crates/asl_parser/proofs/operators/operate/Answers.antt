@@ -1,6 +1,6 @@
 use Rattle.std.proofs.Common.{◌+◌, ◌≤◌, refl, sym, ◌∙◌, arith}
-use Rattle.asl_parser.specs.Machine.{room}
-use Rattle.asl_parser.specs.Marks.{mark}
+use Rattle.asl_syntax.specs.Frames.{room}
+use Rattle.asl_syntax.specs.Marks.{mark}
 use Rattle.asl_parser.specs.Pairs.{plain}
 use Rattle.asl_parser.proofs.Operating.{operated, refused}
 use Rattle.asl_parser.proofs.operators.operate.Goals as goal

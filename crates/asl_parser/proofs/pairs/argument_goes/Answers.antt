@@ -1,5 +1,5 @@
 use Rattle.std.proofs.Common.{suc, Bool, subst, refl}
-use Rattle.asl_parser.specs.Marks.{mark}
+use Rattle.asl_syntax.specs.Marks.{mark}
 use Rattle.asl_parser.specs.Pairs.{plain, AddsNode}
 use Rattle.asl_parser.specs.Stages.{state_of}
 use Rattle.asl_parser.proofs.Skipped.{argument_goes_over}

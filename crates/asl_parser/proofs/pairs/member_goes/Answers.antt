@@ -1,8 +1,8 @@
 use Rattle.std.proofs.Common.{◌≡◌, ℕ, suc, ◌+◌, Bool, subst, refl, arith}
-use Rattle.asl_parser.specs.declared.raw.Raw.TheVariants as raw
-use Rattle.asl_parser.specs.Grow.{leaf, no_subtrees}
-use Rattle.asl_parser.specs.Marks.{mark}
-use Rattle.asl_parser.specs.Opens.{added}
+use Rattle.asl_syntax.specs.declared.raw.Raw.TheVariants as raw
+use Rattle.asl_syntax.specs.Grow.{leaf, no_subtrees}
+use Rattle.asl_syntax.specs.Marks.{mark}
+use Rattle.asl_syntax.specs.Opens.{added}
 use Rattle.asl_parser.specs.Pairs.{plain, AddsNode}
 use Rattle.asl_parser.proofs.Skipped.{member_goes_over}
 use Rattle.asl_parser.proofs.pairs.member_goes.Goals as goal

@@ -1,7 +1,7 @@
 use Rattle.std.proofs.Common.{◌≡◌, suc, ◌+◌, true, [], ◌∷◌, sym, ◌∙◌, arith}
-use Rattle.asl_parser.specs.declared.frame.ParserState.TheVariants as st
+use Rattle.asl_parser.specs.declared.state.ParserState.TheVariants as st
 use Rattle.asl_parser.specs.Machine.{Config}
-use Rattle.asl_parser.specs.Marks.{mark, marks, is_word}
+use Rattle.asl_syntax.specs.Marks.{mark, marks, is_word}
 use Rattle.asl_parser.specs.Stages.{state_of, begins}
 use Rattle.asl_parser.proofs.Calling.{advances_behind, fails_behind}
 use Rattle.asl_parser.proofs.Onward.{pair_on, unread, word_begins, comes_on}

@@ -1,7 +1,7 @@
 use Rattle.std.proofs.Common.{sym, ap, ◌∙◌}
-use Rattle.asl_parser.specs.declared.mark.Look.{Look}
-use Rattle.asl_parser.specs.Looks.{lexeme_of}
-use Rattle.asl_parser.specs.Marks.{marks}
+use Rattle.asl_syntax.specs.declared.mark.Look.{Look}
+use Rattle.asl_syntax.specs.Looks.{lexeme_of}
+use Rattle.asl_syntax.specs.Marks.{marks}
 use Rattle.asl_parser.specs.Stages.{state_of}
 use Rattle.asl_parser.proofs.Bracketed.{bracket_read, may_begin}
 use Rattle.asl_parser.proofs.Onward.{holds_none}

@@ -1,9 +1,9 @@
 use Rattle.std.proofs.Common.{◌≡◌, ℕ, suc, ◌+◌, refl, sym, ap, ◌∙◌, subst, arith}
-use Rattle.asl_parser.specs.declared.frame.ParserState.TheVariants as st
-use Rattle.asl_parser.specs.declared.mark.Look.{Look}
-use Rattle.asl_parser.specs.Looks.{lexeme_of}
+use Rattle.asl_parser.specs.declared.state.ParserState.TheVariants as st
+use Rattle.asl_syntax.specs.declared.mark.Look.{Look}
+use Rattle.asl_syntax.specs.Looks.{lexeme_of}
 use Rattle.asl_parser.specs.Machine.{Config, step}
-use Rattle.asl_parser.specs.Marks.{mark, marks}
+use Rattle.asl_syntax.specs.Marks.{mark, marks}
 use Rattle.asl_parser.specs.Stages.{StepsTo, state_of}
 use Rattle.asl_parser.proofs.Calling.{call_on, advances_behind, fails_behind}
 use Rattle.asl_parser.proofs.Operating.{word_held}

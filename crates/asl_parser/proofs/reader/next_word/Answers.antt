@@ -1,9 +1,9 @@
 use Rattle.std.proofs.Common.{◌≡◌, ◌+◌, true, Some, None, Err, refl, sym, ◌∙◌, subst, arith}
-use Rattle.asl_parser.specs.declared.frame.ParserState.TheVariants as st
-use Rattle.asl_parser.specs.declared.frame.Refusal.{Refusal}
-use Rattle.asl_parser.specs.Grow.{limit}
+use Rattle.asl_parser.specs.declared.state.ParserState.TheVariants as st
+use Rattle.asl_parser.specs.declared.state.Refusal.{Refusal}
+use Rattle.asl_syntax.specs.Grow.{limit}
 use Rattle.asl_parser.specs.Machine.{Config}
-use Rattle.asl_parser.specs.Marks.{mark, marks, is_word}
+use Rattle.asl_syntax.specs.Marks.{mark, marks, is_word}
 use Rattle.asl_parser.specs.Stages.{BeginsNext, state_of}
 use Rattle.asl_parser.proofs.Calling.{advances_behind, fails_behind}
 use Rattle.asl_parser.proofs.Next.{word_steps}

@@ -1,13 +1,13 @@
 use Rattle.std.proofs.Common.{◌≡◌, ◌+◌, None, Err, refl, sym, ap, ◌∙◌, subst, arith}
-use Rattle.asl_parser.specs.declared.frame.ParserState.TheVariants as st
-use Rattle.asl_parser.specs.declared.frame.Refusal.{Refusal}
-use Rattle.asl_parser.specs.declared.mark.Look.{Look}
+use Rattle.asl_parser.specs.declared.state.ParserState.TheVariants as st
+use Rattle.asl_parser.specs.declared.state.Refusal.{Refusal}
+use Rattle.asl_syntax.specs.declared.mark.Look.{Look}
 use Rattle.asl_parser.specs.declared.stage.Stage.{Stage}
-use Rattle.asl_parser.specs.Grow.{limit}
-use Rattle.asl_parser.specs.Looks.{lexeme_of}
+use Rattle.asl_syntax.specs.Grow.{limit}
+use Rattle.asl_syntax.specs.Looks.{lexeme_of}
 use Rattle.asl_parser.specs.Machine.{step}
-use Rattle.asl_parser.specs.Marks.{mark, marks}
-use Rattle.asl_parser.specs.Opens.{tree_of}
+use Rattle.asl_syntax.specs.Marks.{mark, marks}
+use Rattle.asl_syntax.specs.Opens.{tree_of}
 use Rattle.asl_parser.specs.Operating.{MayOperate}
 use Rattle.asl_parser.specs.Reading.{Advances}
 use Rattle.asl_parser.specs.Stages.{state_of, Holds}

@@ -2,11 +2,11 @@ use Rattle.std.proofs.Common.{◌≡◌, ℕ, ◌<◌, List, Result, Ok, Err, su
 use Rattle.std.specs.Prelude.{IfOk}
 use Rattle.std.specs.List.{All}
 use Rattle.asl_lexer.specs.declared.token.Token.{Token}
-use Rattle.asl_parser.specs.declared.raw.RawUnit.{RawUnit}
+use Rattle.asl_syntax.specs.declared.raw.RawUnit.{RawUnit}
 use Rattle.asl_parser.specs.declared.reader.Syntax.{Syntax}
 use Rattle.asl_parser.specs.Parse.{HasOutcome, outcome}
-use Rattle.asl_parser.specs.Within.{AreWithin}
-use Rattle.asl_parser.specs.Written.{writtens}
+use Rattle.asl_syntax.specs.Within.{AreWithin}
+use Rattle.asl_syntax.specs.Written.{writtens}
 use Rattle.asl_parser.specs.Grammar.{Spells}
 use Rattle.asl_parser.proofs.Homes.{spelled_within}
 use Rattle.asl_parser.proofs.Told.{is_spelled, is_one, is_not_deep, is_fault}

@@ -1,14 +1,15 @@
 use Rattle.std.proofs.Common.{◌≡◌, List, length, arith, ap, sym, ◌∙◌, subst, Err}
 use Rattle.std.proofs.lemmas.List.{drop_all}
-use Rattle.asl_parser.specs.declared.subtree.Subtrees.{Subtrees}
-use Rattle.asl_parser.specs.declared.frame.Frame.{Frame}
-use Rattle.asl_parser.specs.declared.frame.ParserState.TheVariants as st
-use Rattle.asl_parser.specs.declared.mark.Mark.{Mark}
-use Rattle.asl_parser.specs.Grow.{limit}
-use Rattle.asl_parser.specs.Marks.{marks}
+use Rattle.asl_syntax.specs.declared.subtree.Subtrees.{Subtrees}
+use Rattle.asl_syntax.specs.declared.frame.Frame.{Frame}
+use Rattle.asl_parser.specs.declared.state.ParserState.TheVariants as st
+use Rattle.asl_syntax.specs.declared.mark.Mark.{Mark}
+use Rattle.asl_syntax.specs.Grow.{limit}
+use Rattle.asl_syntax.specs.Marks.{marks}
 use Rattle.asl_parser.specs.Parse.{EndsIn}
 use Rattle.asl_parser.specs.Stages.{state_of}
-use Rattle.asl_parser.specs.Machine.{finish, walk, within, reading, depth, start, stop}
+use Rattle.asl_syntax.specs.Frames.{depth, start}
+use Rattle.asl_parser.specs.Machine.{finish, walk, within, reading, stop}
 use Rattle.asl_parser.proofs.Walks.{length-marks, walk_ends, finishes_refused}
 use Rattle.asl_parser.proofs.reader.read.Goals as goal
 

@@ -1,8 +1,9 @@
 use Rattle.std.proofs.Common.{◌≡◌, ◌≤◌, ◌-◌, length, drop}
-use Rattle.asl_parser.specs.Grow.{limit}
-use Rattle.asl_parser.specs.Marks.{marks}
+use Rattle.asl_syntax.specs.Grow.{limit}
+use Rattle.asl_syntax.specs.Marks.{marks}
 use Rattle.asl_parser.specs.Stages.{state_of, Holds}
-use Rattle.asl_parser.specs.Machine.{walk, within, reading, depth}
+use Rattle.asl_syntax.specs.Frames.{depth}
+use Rattle.asl_parser.specs.Machine.{walk, within, reading}
 use Rattle.asl_parser.proofs.reader.read.Given as goal
 
 abbrev pub invariant-loop-at : goal.invariant-loop-at

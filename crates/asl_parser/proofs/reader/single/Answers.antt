@@ -1,5 +1,6 @@
-use Rattle.asl_parser.specs.Machine.{Config, depth, step}
-use Rattle.asl_parser.specs.Marks.{mark}
+use Rattle.asl_syntax.specs.Frames.{depth}
+use Rattle.asl_parser.specs.Machine.{Config, step}
+use Rattle.asl_syntax.specs.Marks.{mark}
 use Rattle.asl_parser.specs.Stages.{state_of}
 use Rattle.asl_parser.proofs.Onward.{comes_here, on_advances, on_fails, on_holds}
 use Rattle.asl_parser.proofs.reader.single.Goals as goal

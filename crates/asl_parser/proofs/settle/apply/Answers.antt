@@ -1,5 +1,5 @@
 use Rattle.std.proofs.Common.{sym, ◌∙◌}
-use Rattle.asl_parser.specs.Opens.{tree_of}
+use Rattle.asl_syntax.specs.Opens.{tree_of}
 use Rattle.asl_parser.proofs.Settled.{applied_top}
 use Rattle.asl_parser.proofs.settle.apply.Goals as goal
 

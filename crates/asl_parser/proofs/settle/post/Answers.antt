@@ -1,4 +1,4 @@
-use Rattle.asl_parser.specs.Opens.{tree_of}
+use Rattle.asl_syntax.specs.Opens.{tree_of}
 use Rattle.asl_parser.proofs.Settled.{posts}
 use Rattle.asl_parser.proofs.settle.post.Goals as goal
 

@@ -1,8 +1,8 @@
 use Rattle.std.proofs.Common.{List, ap, sym, ◌∙◌}
-use Rattle.asl_parser.specs.declared.subtree.Subtree.{Subtree}
-use Rattle.asl_parser.specs.declared.frame.Frame.{Frame}
+use Rattle.asl_syntax.specs.declared.subtree.Subtree.{Subtree}
+use Rattle.asl_syntax.specs.declared.frame.Frame.{Frame}
 use Rattle.asl_parser.specs.Machine.{settle}
-use Rattle.asl_parser.specs.Opens.{tree_of}
+use Rattle.asl_syntax.specs.Opens.{tree_of}
 use Rattle.asl_parser.proofs.Settled.{settled, settles}
 use Rattle.asl_parser.proofs.settle.settle.Goals as goal
 

@@ -1,6 +1,6 @@
 use Rattle.std.proofs.Common.{◌≡◌, length}
 use Rattle.asl_parser.specs.Machine as spec
-use Rattle.asl_parser.specs.Opens.{IsOne, tree_of}
+use Rattle.asl_syntax.specs.Opens.{IsOne, tree_of}
 use Rattle.asl_parser.proofs.settle.settle.Given as goal
 
 abbrev pub invariant-loop-stack : goal.invariant-loop-stack

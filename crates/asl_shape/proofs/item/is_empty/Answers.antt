@@ -1,7 +1,7 @@
 use Rattle.std.proofs.Common.{ap, sym, ◌∙◌}
-use Rattle.asl_parser.specs.Written.{written}
-use Rattle.asl_parser.specs.Views.{written_number, written_text, written_item, written_apply, written_list, written_comma, written_semicolon, written_empty}
-use Rattle.asl_parser.specs.Nodes.{raw_in}
+use Rattle.asl_syntax.specs.Written.{written}
+use Rattle.asl_syntax.specs.Views.{written_number, written_text, written_item, written_apply, written_list, written_comma, written_semicolon, written_empty}
+use Rattle.asl_syntax.specs.Nodes.{raw_in}
 use Rattle.asl_shape.specs.Shapes.{is_empty}
 use Rattle.asl_shape.proofs.item.is_empty.Goals as goal
 

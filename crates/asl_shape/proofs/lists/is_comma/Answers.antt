@@ -1,5 +1,5 @@
 use Rattle.std.proofs.Common.{ap, sym, ◌∙◌}
-use Rattle.asl_parser.specs.Nodes.{raw_in}
+use Rattle.asl_syntax.specs.Nodes.{raw_in}
 use Rattle.asl_shape.specs.AtRaw.{is_comma_at}
 use Rattle.asl_shape.proofs.Braces.{comma_comma, comma_semicolon, comma_number, comma_text, comma_item, comma_apply, comma_list, comma_empty}
 use Rattle.asl_shape.proofs.lists.is_comma.Goals as goal

@@ -1,5 +1,5 @@
 use Rattle.std.proofs.Common.{ap, sym, ◌∙◌}
-use Rattle.asl_parser.specs.Nodes.{raw_in}
+use Rattle.asl_syntax.specs.Nodes.{raw_in}
 use Rattle.asl_shape.specs.AtRaw.{is_separator_at}
 use Rattle.asl_shape.proofs.Braces.{separator_comma, separator_semicolon, separator_number, separator_text, separator_item, separator_apply, separator_list, separator_empty}
 use Rattle.asl_shape.proofs.lists.is_separator.Goals as goal

@@ -1,5 +1,5 @@
 use Rattle.std.proofs.Common.{ap, sym, ◌∙◌}
-use Rattle.asl_parser.specs.Nodes.{raw_in}
+use Rattle.asl_syntax.specs.Nodes.{raw_in}
 use Rattle.asl_shape.specs.AtRaw.{is_text_at}
 use Rattle.asl_shape.proofs.Braces.{text_comma, text_semicolon, text_number, text_text, text_item, text_apply, text_list, text_empty}
 use Rattle.asl_shape.proofs.lists.is_text.Goals as goal

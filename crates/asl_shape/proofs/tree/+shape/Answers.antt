@@ -1,13 +1,15 @@
 use Rattle.std.proofs.Common.{◌≡◌, ◌<◌, ◌++◌, [], length, append-nil, slice_get, Some, ◌+◌, arith, drop, get_or, ap, sym, subst, ◌∙◌, OnOk}
 use Rattle.std.proofs.lemmas.Result.{on_ok_weaker}
-use Rattle.asl_parser.specs.Nodes.{raw_in}
-use Rattle.asl_shape.specs.Shapes.{Shaped, nowhere, one_plan, evaluated, checked, number_shape, text_shape}
-use Rattle.asl_shape.specs.AtRaw.{shape_at, bare_at, item_at, place_at, member_at, one_at, run_after_at, terms_at, default_after_at, cases_at, part_at, unit_at, due_behind_at}
-use Rattle.asl_shape.specs.Plans.{Plan, plans_of, join, last_plan, before_last, with_last}
+use Rattle.asl_syntax.specs.Nodes.{raw_in}
+use Rattle.asl_terms.specs.Terms.{Shaped, nowhere, one_plan, evaluated, checked, number_shape, text_shape}
+use Rattle.asl_terms.specs.AtRaw.{place_at}
+use Rattle.asl_shape.specs.AtRaw.{shape_at, bare_at, item_at, member_at, one_at, run_after_at, terms_at, default_after_at, cases_at}
+use Rattle.asl_shape.specs.AtRaw.{part_at, unit_at, due_behind_at}
+use Rattle.asl_terms.specs.Plans.{Plan, plans_of, join, last_plan, before_last, with_last}
 use Rattle.asl_words.specs.declared.operator.Slot.TheVariants as slot
-use Rattle.asl_shape.proofs.Last.{some_behind, last_join, before_join}
+use Rattle.asl_terms.proofs.Last.{some_behind, last_join, before_join}
 use Rattle.asl_shape.proofs.Shapes.{none_more, clean_faults, clean_made, read_there, bare_number, bare_text, bare_item, operand_faults, operand_made, list_faults, list_made, run_faults, run_made, case_faults, case_made, item_smaller, argument_some_faults, argument_some_made, left_faults, left_made, argument_faults, argument_made, got_some, got_none}
-use Rattle.asl_shape.proofs.Leaves.{place_item, place_number, place_text}
+use Rattle.asl_terms.proofs.Leaves.{place_item, place_number, place_text}
 use Rattle.asl_shape.proofs.FieldSteps.{element_faults, element_made}
 use Rattle.asl_shape.proofs.tree.+shape.Goals as goal
 

@@ -1,5 +1,5 @@
 use Rattle.std.proofs.Common.{sym, ap, ◌∙◌}
-use Rattle.asl_parser.specs.Nodes.{raw_in}
+use Rattle.asl_syntax.specs.Nodes.{raw_in}
 use Rattle.asl_shape.proofs.Units.{alone_formed, alone_refused}
 use Rattle.asl_shape.proofs.unit.block_in.Goals as goal
 

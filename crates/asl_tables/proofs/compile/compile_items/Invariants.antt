@@ -1,6 +1,6 @@
 use Rattle.std.proofs.Common.{List, reverse}
 use Rattle.std.specs.Vec.{vec_len}
-use Rattle.asl_parser.specs.declared.raw.Raw.{Raw}
+use Rattle.asl_syntax.specs.declared.raw.Raw.{Raw}
 use Rattle.asl_shape.specs.Forms.{AreRight}
 use Rattle.program_shapes.specs.Kept.{AreKeptAlone}
 use Rattle.asl_tables.specs.Reads.{AreReadOf, AreRightReads}

@@ -1,7 +1,7 @@
 use Rattle.std.proofs.Common.{◌++◌, arith, drop, ap, sym, ◌∙◌}
-use Rattle.asl_parser.specs.Nodes.{raw_in}
-use Rattle.asl_words.specs.Meanings.{meaning_of}
-use Rattle.asl_shape.specs.AtRaw.{is_some}
+use Rattle.asl_syntax.specs.Nodes.{raw_in}
+use Rattle.word_meanings.specs.Meanings.{meaning_of}
+use Rattle.asl_terms.specs.AtRaw.{is_some}
 use Rattle.literal_checks.specs.Literals.{is_first_wide, unless, told_at, told_item_at}
 use Rattle.literal_checks.proofs.Told.{of_item, item_smaller, list_next, list_over}
 use Rattle.literal_checks.proofs.check.+parts.Goals as goal

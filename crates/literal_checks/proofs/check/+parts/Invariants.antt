@@ -1,5 +1,5 @@
 use Rattle.std.proofs.Common.{◌≡◌, ◌+◌, ◌*◌, ◌++◌, drop}
-use Rattle.asl_parser.specs.Sizes.{size_at, sizes_at, size_in_at}
+use Rattle.asl_syntax.specs.Sizes.{size_at, sizes_at, size_in_at}
 use Rattle.literal_checks.specs.Literals.{told_in_at}
 use Rattle.literal_checks.proofs.check.+parts.Given as goal
 

@@ -1,0 +1,4 @@
+pub mod Symbols
+pub mod Heights
+pub mod Merged
+pub mod Stacks

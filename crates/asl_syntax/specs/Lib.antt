@@ -1,0 +1,16 @@
+pub mod Signs
+pub mod Marks
+pub mod Looks
+pub mod Trees
+pub mod Levels
+pub mod Opens
+pub mod Grow
+pub mod Frames
+pub mod Place
+pub mod Written
+pub mod Within
+pub mod Sizes
+pub mod Views
+pub mod TextBytes
+pub mod Nodes
+pub mod Falls

@@ -1,0 +1,13 @@
+pub mod Plans
+pub mod Constants
+pub mod Terms
+pub mod Leaves
+pub mod Bracketed
+pub mod Settled
+pub mod Joins
+pub mod Types
+pub mod Last
+pub mod Outcomes
+pub mod TextMacros
+pub mod FieldWords
+pub mod Holes

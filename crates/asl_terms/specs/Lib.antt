@@ -1,0 +1,5 @@
+pub mod Plans
+pub mod Symbols
+pub mod Terms
+pub mod AtRaw
+pub mod Places
