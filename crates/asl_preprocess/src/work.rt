@@ -177,7 +177,7 @@ impl Work {
             line.in_comment,
             room,
         )?;
-        Ok(Text::from_vec(alloc, left)?)
+        Ok(Text::shared(alloc, left)?)
     }
 
     // One more line, for which there is room.

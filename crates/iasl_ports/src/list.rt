@@ -121,6 +121,8 @@ enum Bytes {
     },
     /// In a vector of their own.
     Vector(Box<Vec<u8>>),
+    /// All of bytes that others share.
+    Whole(SharedBytes),
     /// Among bytes that others share: those behind the first `start`, so many.
     Part {
         count: u16,
@@ -273,6 +275,9 @@ impl Text {
                     bytes: bytes.share()?,
                 },
             }),
+            Bytes::Whole(bytes) => Ok(Text {
+                bytes: Bytes::Whole(bytes.share()?),
+            }),
             _ => Text::from_bytes(alloc, self.as_bytes()),
         }
     }
@@ -287,8 +292,11 @@ impl Text {
     ) -> Result<Text, AllocError>
         ensures { IfOk result (λ text. text ≡ take count (drop start bytes.now)) }
     {
-        if count <= INLINE || count > PART || start > BEFORE {
+        if count <= INLINE {
             return Text::from_bytes(alloc, part(bytes, start, count));
+        }
+        if count > PART || start > BEFORE {
+            return Text::shared(alloc, part(bytes, start, count).to_vec(alloc)?);
         }
         Ok(Text {
             bytes: Bytes::Part {
@@ -324,6 +332,18 @@ impl Text {
         Ok(Text { bytes })
     }
 
+    /// The text of a vector's bytes, which its copies share.
+    pub fn shared(alloc: Global, bytes: Vec<u8>) -> Result<Text, AllocError>
+        ensures { IfOk result (λ text. text ≡ bytes.items) }
+    {
+        let bytes = if bytes.len() <= INLINE {
+            inline(&bytes)
+        } else {
+            Bytes::Whole(SharedBytes::from_vec(alloc, bytes)?)
+        };
+        Ok(Text { bytes })
+    }
+
     /// A text of a few bytes, which takes no memory.
     pub fn of_few(bytes: &[u8]) -> Text
         requires { length bytes.now ≤ 14 }
@@ -353,6 +373,7 @@ impl Text {
             Bytes::Inline { bytes, count } => front(bytes, *count as usize),
             Bytes::Boxed { count, bytes } => front(&**bytes, *count as usize),
             Bytes::Vector(bytes) => bytes,
+            Bytes::Whole(bytes) => bytes.as_bytes(),
             Bytes::Part {
                 count,
                 start,

@@ -361,6 +361,7 @@ impl MemorySink {
         ensures named { OnOk result (NamesCall self.old.calls self.new.calls call) }
         ensures refused { OnErr result (KeepsCalls self.old.calls self.new.calls) }
         ensures bytes { told_bytes self.new ≡ told_bytes self.old }
+        ensures room { room_of self.new ≡ room_of self.old }
     {
         self.calls.fail_at(call)
     }
