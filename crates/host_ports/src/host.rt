@@ -4,6 +4,7 @@ ghost use Rattle.std.specs.Prelude.{◌≡◌, ◌≤◌, ℕ, List, length, Non
 ghost use Rattle.iasl_ports.specs.Counts.{Rose};
 ghost use Rattle.iasl_ports.specs.Fetched.{most_bytes};
 
+use crate::refused::{Refusal, Refused};
 use crate::whole::{Reading, read_whole, write_some, write_whole};
 use iasl_ports::files::{FetchFault, Files};
 use iasl_ports::outputs::{Outputs, PutFault};
@@ -11,7 +12,6 @@ use iasl_ports::sink::{Sink, SinkFault};
 use std::alloc::{AllocGlobal, Global};
 use std::fs::File;
 use std::io;
-use std::io::ErrorKind;
 use std::rt::Files as HostFileSystem;
 
 // Counts one more. The count stops at the largest u64.
@@ -29,6 +29,7 @@ pub struct HostFiles<R: HostFileSystem + Drop> {
     faults: u64,
     absents: u64,
     larges: u64,
+    refused: Option<Refused>,
 }
 
 impl<R: HostFileSystem + Drop> HostFiles<R> {
@@ -43,55 +44,54 @@ impl<R: HostFileSystem + Drop> HostFiles<R> {
             faults: 0,
             absents: 0,
             larges: 0,
+            refused: None,
         }
     }
-}
 
-// Whether an error says that there is no file of a name: it is absent, its path leads through what is no
-// directory, or no file of the system can have it, since it has a NUL byte or is longer than the system takes.
-fn is_absence(kind: ErrorKind) -> bool {
-    matches!(
-        kind,
-        ErrorKind::NotFound
-            | ErrorKind::NotADirectory
-            | ErrorKind::InvalidInput
-            | ErrorKind::InvalidFilename
-    )
-}
-
-// What an error of the system is to a fetch.
-fn refusal(kind: ErrorKind) -> FetchFault {
-    if is_absence(kind) {
-        FetchFault::Absent
-    } else {
-        FetchFault::Failed
+    /// The last file that was not fetched, where there is one.
+    pub fn refused(&self) -> Option<&Refused> {
+        self.refused.as_ref()
     }
 }
 
 // Opens a regular file. What is none is not opened, since to open a pipe may wait for its writer.
-fn open_regular<R: HostFileSystem>(system: &R, name: &str) -> Result<R::File, FetchFault> {
+fn open_regular<R: HostFileSystem>(system: &R, name: &str) -> Result<R::File, Refusal> {
     match std::fs::metadata(system, name) {
         Ok(found) if found.is_file() => match File::open(system, name) {
             Ok(file) => Ok(file),
-            Err(e) => Err(refusal(e.kind())),
+            Err(e) => Err(Refusal::System(e.kind())),
         },
-        Ok(_) => Err(FetchFault::Failed),
-        Err(e) => Err(refusal(e.kind())),
+        Ok(_) => Err(Refusal::NotRegular),
+        Err(e) => Err(Refusal::System(e.kind())),
     }
 }
 
-fn read_file<R: HostFileSystem>(
-    system: &R,
-    alloc: Global,
-    name: &str,
-) -> Result<Vec<u8>, FetchFault>
+// Why a file is not read.
+#[derive(Clone, Copy, Drop)]
+enum ReadStop {
+    Refused(Refusal),
+    TooLarge,
+    Memory,
+}
+
+impl From<Refusal> for ReadStop {
+    ghost use Rattle.host_ports.specs.declared.host.ReadStop.TheVariants.{Refused};
+
+    ghost from_gives = { λ e s. s ≡ Refused e };
+
+    fn from(refusal: Refusal) -> Self {
+        ReadStop::Refused(refusal)
+    }
+}
+
+fn read_file<R: HostFileSystem>(system: &R, alloc: Global, name: &str) -> Result<Vec<u8>, ReadStop>
     ensures { IfOk result (λ bytes. length bytes.items ≤ most_bytes) }
 {
     match read_whole(alloc, open_regular(system, name)?) {
         Reading::Whole(bytes) => Ok(bytes),
-        Reading::Longer => Err(FetchFault::TooLarge),
-        Reading::Failed => Err(FetchFault::Failed),
-        Reading::Memory => Err(FetchFault::Memory),
+        Reading::Longer => Err(ReadStop::TooLarge),
+        Reading::Failed => Err(ReadStop::Refused(Refusal::Unread)),
+        Reading::Memory => Err(ReadStop::Memory),
     }
 }
 
@@ -108,22 +108,23 @@ impl<R: HostFileSystem + Drop> Files for HostFiles<R> {
     ghost larges = { λ files. files.larges };
 
     fn fetch(&mut self, alloc: Global, name: &str) -> Result<Vec<u8>, FetchFault> {
-        let read = read_file(&self.system, alloc, name);
-        match read {
+        match read_file(&self.system, alloc, name) {
             Ok(bytes) => Ok(bytes),
-            Err(FetchFault::Absent) => {
-                raise(&mut self.absents);
-                Err(FetchFault::Absent)
+            Err(ReadStop::Refused(refusal)) => {
+                self.refused = Refused::of(alloc, name, refusal);
+                if refusal.is_absence() {
+                    raise(&mut self.absents);
+                    Err(FetchFault::Absent)
+                } else {
+                    raise(&mut self.faults);
+                    Err(FetchFault::Failed)
+                }
             }
-            Err(FetchFault::TooLarge) => {
+            Err(ReadStop::TooLarge) => {
                 raise(&mut self.larges);
                 Err(FetchFault::TooLarge)
             }
-            Err(FetchFault::Failed) => {
-                raise(&mut self.faults);
-                Err(FetchFault::Failed)
-            }
-            Err(FetchFault::Memory) => Err(FetchFault::Memory),
+            Err(ReadStop::Memory) => Err(FetchFault::Memory),
         }
     }
 }
@@ -131,24 +132,49 @@ impl<R: HostFileSystem + Drop> Files for HostFiles<R> {
 /// The files of the system, made anew.
 #[derive(Drop)]
 pub struct HostOutputs<R: HostFileSystem + Drop> {
+    alloc: Global,
     system: R,
     faults: u64,
+    refused: Option<Refused>,
 }
 
 impl<R: HostFileSystem + Drop> HostOutputs<R> {
     /// The outputs of this system, of which no put has failed yet.
-    pub fn new(system: R) -> Self
+    pub fn new(alloc: Global, system: R) -> Self
         ensures { result.faults ≡ 0 }
     {
-        HostOutputs { system, faults: 0 }
+        HostOutputs {
+            alloc,
+            system,
+            faults: 0,
+            refused: None,
+        }
+    }
+
+    /// The last file that was not put whole, where there is one.
+    pub fn refused(&self) -> Option<&Refused> {
+        self.refused.as_ref()
+    }
+}
+
+// Makes a file anew. What is there and no regular file is left as it is: to open a pipe may wait for its reader, and a device keeps
+// no file.
+fn create_regular<R: HostFileSystem>(system: &R, name: &str) -> Result<R::File, Refusal> {
+    match std::fs::metadata(system, name) {
+        Ok(found) if !found.is_file() => Err(Refusal::NotRegular),
+        _ => match File::create(system, name) {
+            Ok(file) => Ok(file),
+            Err(e) => Err(Refusal::System(e.kind())),
+        },
     }
 }
 
 // Makes a file anew and writes it whole.
-fn make_file<R: HostFileSystem>(system: &R, name: &str, bytes: &[u8]) -> bool {
-    match File::create(system, name) {
-        Ok(mut file) => write_whole(&mut file, bytes).is_ok(),
-        Err(_) => false,
+fn make_file<R: HostFileSystem>(system: &R, name: &str, bytes: &[u8]) -> Result<(), Refusal> {
+    let mut file = create_regular(system, name)?;
+    match write_whole(&mut file, bytes) {
+        Ok(()) => Ok(()),
+        Err(_) => Err(Refusal::Unwritten),
     }
 }
 
@@ -158,11 +184,14 @@ impl<R: HostFileSystem + Drop> Outputs for HostOutputs<R> {
     ghost faults = { λ outs. outs.faults };
 
     fn put(&mut self, name: &str, bytes: &[u8]) -> Result<(), PutFault> {
-        if make_file(&self.system, name, bytes) {
-            return Ok(());
+        match make_file(&self.system, name, bytes) {
+            Ok(()) => Ok(()),
+            Err(refusal) => {
+                self.refused = Refused::of(self.alloc, name, refusal);
+                raise(&mut self.faults);
+                Err(PutFault::Failed)
+            }
         }
-        raise(&mut self.faults);
-        Err(PutFault::Failed)
     }
 }
 

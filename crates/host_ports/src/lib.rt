@@ -2,5 +2,8 @@
 #![tactic(auto)]
 
 pub mod host;
+pub mod program_text;
+pub mod refused;
 pub mod text;
 pub mod whole;
+pub mod words;

@@ -39,14 +39,31 @@ pub fn read_whole<R: Read + Drop>(alloc: Global, reader: R) -> Reading
     }
 }
 
-/// Writes all bytes, in as many writes as it takes.
+/// The most bytes that are offered in one write. The system takes at most some 2 GiB at once.
+const MOST_AT_ONCE: usize = 1_073_741_824;
+
+// Writes bytes in one write, which is to take all of them.
+fn write_once<W: Write>(writer: &mut W, bytes: &[u8]) -> Result<(), WriteFault>
+    ensures { OnOk result (Appends (W.contents writer.old) (W.contents writer.new) bytes.now) }
+{
+    match writer.write(bytes) {
+        Ok(count) if count == bytes.len() => Ok(()),
+        _ => Err(WriteFault),
+    }
+}
+
+/// Writes all bytes, a GiB at a time. A writer that takes less than it is offered is full, and is offered no more: where a file may not
+/// grow further, the system would end the process at the next write.
 pub fn write_whole<W: Write>(writer: &mut W, bytes: &[u8]) -> Result<(), WriteFault>
     ensures { OnOk result (Appends (W.contents writer.old) (W.contents writer.new) bytes.now) }
 {
-    match writer.write_all(bytes) {
-        Ok(()) => Ok(()),
-        Err(_) => Err(WriteFault),
+    let mut done = 0;
+    while done < bytes.len() {
+        let end = done + (bytes.len() - done).min(MOST_AT_ONCE);
+        write_once(writer, &bytes[done..end])?;
+        done = end;
     }
+    Ok(())
 }
 
 /// Writes some of the first bytes in one write, at least one where there is one, and says how many the writer took. After an error

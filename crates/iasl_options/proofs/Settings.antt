@@ -6,9 +6,9 @@ use Rattle.asl_preprocess.specs.declared.define.Define.{Define}
 use Rattle.iasl_options.specs.Words.{Setting, PreprocessOnly, NoPreprocessor, Turned, Prefix, Directory, Definition, File}
 use Rattle.iasl_options.specs.declared.switches.Switch.{Switch}
 use Rattle.iasl_options.specs.declared.switches.Switches.{Switches}
-use Rattle.iasl_options.specs.Switches.{is_brief, is_strict, is_c_text, is_listing, is_generic, keeps_constants, keeps_integers, keeps_names, wraps_externals, with_switch, no_switch}
+use Rattle.iasl_options.specs.Switches.{is_brief, is_strict, is_c_text, is_listing, is_generic, keeps_constants, keeps_integers, keeps_names, wraps_externals, is_acpica, with_switch, no_switch}
 use Rattle.iasl_options.specs.Asking.{Asked, nothing, define_of, with_setting}
-use Rattle.iasl_options.specs.CommandLine.{file_of, prefix_of, directory_of, definition_of, is_preprocess_only, is_no_preprocessor, turns, switches_in, IsGood, first, gathered}
+use Rattle.iasl_options.specs.CommandLine.{file_of, prefix_of, directory_of, definition_of, is_preprocess_only, is_no_preprocessor, turns, switches_in, IsGood, first, said}
 
 -- settings one after another; none where one of them may not come any more
 abbrev pub after : Asked → List Setting → Option Asked
@@ -34,6 +34,7 @@ switches_with switches settings = record {
   short = switches.short && not (list_any (turns keeps_integers) settings);
   shorten = switches.shorten && not (list_any (turns keeps_names) settings);
   wrap = switches.wrap || list_any (turns wraps_externals) settings;
+  acpica = switches.acpica || list_any (turns is_acpica) settings;
 }
 
 -- with all that further settings ask for
@@ -96,7 +97,7 @@ and_yes true = refl
 and_yes false = refl
 
 switches_nil : (switches : Switches) → switches_with switches [] ≡ switches
-switches_nil switches = λ i. record { brief = or_no switches.brief i; strict = or_no switches.strict i; c_text = or_no switches.c_text i; listing = or_no switches.listing i; generic = or_no switches.generic i; fold = and_yes switches.fold i; short = and_yes switches.short i; shorten = and_yes switches.shorten i; wrap = or_no switches.wrap i }
+switches_nil switches = λ i. record { brief = or_no switches.brief i; strict = or_no switches.strict i; c_text = or_no switches.c_text i; listing = or_no switches.listing i; generic = or_no switches.generic i; fold = and_yes switches.fold i; short = and_yes switches.short i; shorten = and_yes switches.shorten i; wrap = or_no switches.wrap i; acpica = or_no switches.acpica i }
 
 or_more : (a b c : Bool) → ((a || b) || c) ≡ (a || (b || c))
 or_more true b c = refl
@@ -118,6 +119,7 @@ switches_more switches switch rest = λ i. record {
   short = and_more switches.short (keeps_integers switch) (list_any (turns keeps_integers) rest) i;
   shorten = and_more switches.shorten (keeps_names switch) (list_any (turns keeps_names) rest) i;
   wrap = or_more switches.wrap (wraps_externals switch) (list_any (turns wraps_externals) rest) i;
+  acpica = or_more switches.acpica (is_acpica switch) (list_any (turns is_acpica) rest) i;
 }
 
 extended_nil : (file prefix : Option (List ℕ)) (directories : List (List ℕ)) (definitions : List Define) (only enabled : Bool) (switches : Switches) → extended file prefix directories definitions only enabled switches [] ≡ made file prefix directories definitions only enabled switches
@@ -228,14 +230,14 @@ few_prefixes (prefix ∷ []) h = tt
 few_prefixes (prefix ∷ more ∷ prefixes) h = absurd (omega arith)
 
 -- settings that come one after another, a file among them, are good
-pub good_settings : (settings : List Setting) (asked : Asked) → after nothing settings ≡ Some asked → is_some asked.file ≡ true → IsGood settings × (asked ≡ gathered settings)
+pub good_settings : (settings : List Setting) (asked : Asked) → after nothing settings ≡ Some asked → is_some asked.file ≡ true → IsGood settings × (asked ≡ said settings)
 good_settings settings asked e some =
     let h = together None None [] [] false true no_switch settings asked refl e in
     let named : is_some (first (flat_map file_of settings)) ≡ true = sym (ap (λ all. is_some all.file) h.1) ∙ some in
     (record { file = one_of (flat_map file_of settings) h.0.files named; prefix = at_most_one (flat_map prefix_of settings) h.0.prefixes; preprocessor = h.0.one_way }, h.1)
 
 -- good settings come one after another
-pub good_comes : (settings : List Setting) → IsGood settings → (after nothing settings ≡ Some (gathered settings)) × (is_some (gathered settings).file ≡ true)
+pub good_comes : (settings : List Setting) → IsGood settings → (after nothing settings ≡ Some (said settings)) × (is_some (said settings).file ≡ true)
 good_comes settings good =
     let e = good.file.2 in
     let files : FilesFit None (flat_map file_of settings) = subst (FilesFit None) (sym e) tt in (

@@ -13,8 +13,9 @@ use Rattle.iasl_options.specs.declared.words.Key.TheVariants as key
 use Rattle.iasl_options.specs.declared.switches.Switch.{Switch}
 use Rattle.iasl_options.specs.Switches.{switch_of}
 use Rattle.iasl_options.specs.Words.{Setting, PreprocessOnly, NoPreprocessor, Turned, Prefix, Directory, Definition, File, Word, Asks, Opens, Unknown, with_value, valued, behind, begins_with_hyphen, or_turned, or_valued, word_of}
-use Rattle.iasl_options.specs.Asking.{Asked, Behind, with_setting, may_open, settled, behind_word, one_more, at_end, or_spoilt, asked_from, begin, asked_by}
+use Rattle.iasl_options.specs.Asking.{Asked, Behind, with_setting, may_open, settled, behind_word, one_more, at_end, or_spoilt, asked_from, begin, asked_by, front_of}
 use Rattle.iasl_options.specs.Shown.{IsText, AreTexts, asked_of, Answers}
+use Rattle.iasl_options.proofs.Extensions.{stem_text}
 
 abbrev SettingIsText : Setting → Type 0
 SettingIsText (Prefix prefix) = IsUtf8 prefix
@@ -120,8 +121,14 @@ abbrev ResultText : Result Asked ℕ → Type 0
 ResultText (Ok asked) = AskedText asked
 ResultText (Err n) = Unit {0}
 
+-- a prefix without its extension is UTF-8
+front_text : (acpica : Bool) (prefix : Option (List ℕ)) → IsText prefix → IsText (front_of acpica prefix)
+front_text true (Some prefix) u = stem_text prefix u
+front_text true None u = tt
+front_text false prefix u = u
+
 end_text : (asked : Asked) (waiting : Option Key) (file : Option (List ℕ)) (n : ℕ) → AskedText asked → ResultText (at_end asked waiting file n)
-end_text asked None (Some file) n h = h
+end_text asked None (Some file) n h = (h.0, front_text asked.switches.acpica asked.prefix h.1)
 end_text asked None None n h = tt
 end_text asked (Some key) (Some file) n h = tt
 end_text asked (Some key) None n h = tt

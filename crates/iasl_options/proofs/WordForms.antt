@@ -60,7 +60,12 @@ switch_is word =
     or_is word switch.WrittenNames _ (
     or_is word switch.Unfolded _ (
     or_is word switch.Unoptimised _ (
-    or_is word switch.WrappedExternals _ tt)))))))))
+    or_is word switch.WrappedExternals _ (
+    or_is word switch.Acpica _ (
+    or_is word switch.NoSignon _ (
+    or_is word switch.FirstLevel _ (
+    or_is word switch.SecondLevel _ (
+    or_is word switch.ThirdLevel _ tt))))))))))))))
 
 turned_form : (word : List ℕ) (found : Option Switch) (rest : Word) → IsSwitch word found → Form word rest → Form word (or_turned found rest)
 turned_form word None rest is h = h
@@ -95,6 +100,11 @@ word_switch switch.WrittenNames = refl
 word_switch switch.Unfolded = refl
 word_switch switch.Unoptimised = refl
 word_switch switch.WrappedExternals = refl
+word_switch switch.Acpica = refl
+word_switch switch.NoSignon = refl
+word_switch switch.FirstLevel = refl
+word_switch switch.SecondLevel = refl
+word_switch switch.ThirdLevel = refl
 
 pub word_opens : (key : Key) → word_of (mark key) ≡ Opens key
 word_opens key.Prefix = refl

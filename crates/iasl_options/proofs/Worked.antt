@@ -18,8 +18,13 @@ all_options = refl
 
 -- short messages and no warnings, one of them asked for twice
 quiet_options : asked_by (codes "-we" ∷ codes "t" ∷ codes "-vi" ∷ codes "-we" ∷ [])
-    ≡ Ok (record { file = Some (codes "t"); prefix = None; directories = []; definitions = []; only = false; enabled = true; switches = record { brief = true; strict = true; c_text = false; listing = false; generic = false; fold = true; short = true; shorten = true; wrap = false } })
+    ≡ Ok (record { file = Some (codes "t"); prefix = None; directories = []; definitions = []; only = false; enabled = true; switches = record { brief = true; strict = true; c_text = false; listing = false; generic = false; fold = true; short = true; shorten = true; wrap = false; acpica = false } })
 quiet_options = refl
+
+-- outputs as ACPICA's compiler names them: the prefix loses its extension
+acpica_options : asked_by (codes "-p" ∷ codes "build/dsdt.aml" ∷ codes "--acpica" ∷ codes "-vs" ∷ codes "t" ∷ [])
+    ≡ Ok (record { file = Some (codes "t"); prefix = Some (codes "build/dsdt"); directories = []; definitions = []; only = false; enabled = true; switches = record { brief = false; strict = false; c_text = false; listing = false; generic = false; fold = true; short = true; shorten = true; wrap = true; acpica = true } })
+acpica_options = refl
 
 -- the words that spoil others: a second prefix, `-Pn` behind `-P`, a second file, an unknown option; a value or a file is missing
 second_prefix : asked_by (codes "-p" ∷ codes "a" ∷ codes "-p" ∷ codes "b" ∷ codes "t" ∷ []) ≡ Err 2

@@ -5,6 +5,7 @@ use Rattle.asl_preprocess.specs.declared.define.Define.{Define}
 use Rattle.iasl_options.specs.declared.words.Key.{Key}
 use Rattle.iasl_options.specs.declared.words.Key.TheVariants as key
 use Rattle.iasl_options.specs.declared.switches.Switches.{Switches}
+use Rattle.iasl_options.specs.Names.{stem_of}
 use Rattle.iasl_options.specs.Switches.{no_switch, with_switch}
 use Rattle.iasl_options.specs.Words.{Setting, PreprocessOnly, NoPreprocessor, Turned, Prefix, Directory, Definition, File, Word, Asks}
 use Rattle.iasl_options.specs.Words.{Opens, Unknown, with_value, word_of}
@@ -142,9 +143,27 @@ abbrev pub one_more : Behind → Option Key → List ℕ → Option Behind
 one_more behind None word = behind_word behind.asked (word_of word)
 one_more behind (Some key) value = settled (with_setting behind.asked (with_value key value))
 
+-- the front of the output names: with `--acpica` a prefix without its extension, as ACPICA's compiler has it
+abbrev pub front_of : Bool → Option (List ℕ) → Option (List ℕ)
+front_of true (Some prefix) = Some (stem_of prefix)
+front_of true None = None
+front_of false prefix = prefix
+
+-- what is asked for by all that the words say
+abbrev pub as_asked : Asked → Asked
+as_asked asked = record {
+  file = asked.file;
+  prefix = front_of asked.switches.acpica asked.prefix;
+  directories = asked.directories;
+  definitions = asked.definitions;
+  only = asked.only;
+  enabled = asked.enabled;
+  switches = asked.switches;
+}
+
 -- the words are used up: no option waits, and there is a file
 abbrev pub at_end : Asked → Option Key → Option (List ℕ) → ℕ → Result Asked ℕ
-at_end asked None (Some file) n = Ok asked
+at_end asked None (Some file) n = Ok (as_asked asked)
 at_end asked _ _ n = Err n
 
 abbrev pub or_spoilt : ℕ → Option Behind → (Behind → Result Asked ℕ) → Result Asked ℕ

@@ -9,10 +9,10 @@ use Rattle.iasl_options.specs.declared.words.Key.TheVariants as key
 use Rattle.iasl_options.specs.declared.switches.Switch.{Switch}
 use Rattle.iasl_options.specs.declared.switches.Switches.{Switches}
 use Rattle.iasl_options.specs.Switches.{switch_word, is_brief, is_strict, is_c_text, is_listing, is_generic, keeps_constants}
-use Rattle.iasl_options.specs.Switches.{keeps_integers, keeps_names, wraps_externals}
+use Rattle.iasl_options.specs.Switches.{keeps_integers, keeps_names, wraps_externals, is_acpica}
 use Rattle.iasl_options.specs.Words.{Setting, PreprocessOnly, NoPreprocessor, Turned, Prefix, Directory, Definition, File}
 use Rattle.iasl_options.specs.Words.{begins_with_hyphen}
-use Rattle.iasl_options.specs.Asking.{Asked, define_of}
+use Rattle.iasl_options.specs.Asking.{Asked, define_of, as_asked}
 
 -- ---- words and settings
 
@@ -109,11 +109,12 @@ switches_in settings = record {
   short = not (list_any (turns keeps_integers) settings);
   shorten = not (list_any (turns keeps_names) settings);
   wrap = list_any (turns wraps_externals) settings;
+  acpica = list_any (turns is_acpica) settings;
 }
 
--- all that settings ask for; directories and definitions are in the order of the words
-abbrev pub gathered : List Setting → Asked
-gathered settings = record {
+-- all that settings say; directories and definitions are in the order of the words
+abbrev pub said : List Setting → Asked
+said settings = record {
   file = first (flat_map file_of settings);
   prefix = first (flat_map prefix_of settings);
   directories = flat_map directory_of settings;
@@ -122,6 +123,10 @@ gathered settings = record {
   enabled = not (list_any is_no_preprocessor settings);
   switches = switches_in settings;
 }
+
+-- all that settings ask for
+abbrev pub gathered : List Setting → Asked
+gathered settings = as_asked (said settings)
 
 -- ---- command lines
 

@@ -18,10 +18,27 @@ switch_word switch.WrittenNames = codes "-on"
 switch_word switch.Unfolded = codes "-of"
 switch_word switch.Unoptimised = codes "-oa"
 switch_word switch.WrappedExternals = codes "--wrap-externals"
+switch_word switch.Acpica = codes "--acpica"
+switch_word switch.NoSignon = codes "-vs"
+switch_word switch.FirstLevel = codes "-w1"
+switch_word switch.SecondLevel = codes "-w2"
+switch_word switch.ThirdLevel = codes "-w3"
 
 -- this switch, where the word is written so, or else another
 abbrev pub or_other : List ℕ → Switch → Option Switch → Option Switch
 or_other word one other = cond (bytes_eq word (switch_word one)) (Some one) other
+
+-- the switch that is written so, of those that change nothing here
+abbrev pub level_of : List ℕ → Option Switch
+level_of word =
+    or_other word switch.NoSignon (
+    or_other word switch.FirstLevel (
+    or_other word switch.SecondLevel (
+    or_other word switch.ThirdLevel None)))
+
+-- the same of those and of the switches that are written with two hyphens
+abbrev pub further_of : List ℕ → Option Switch
+further_of word = or_other word switch.WrappedExternals (or_other word switch.Acpica (level_of word))
 
 -- the switch that is written so
 abbrev pub switch_of : List ℕ → Option Switch
@@ -34,8 +51,7 @@ switch_of word =
     or_other word switch.LongIntegers (
     or_other word switch.WrittenNames (
     or_other word switch.Unfolded (
-    or_other word switch.Unoptimised (
-    or_other word switch.WrappedExternals None)))))))))
+    or_other word switch.Unoptimised (further_of word)))))))))
 
 abbrev pub is_brief : Switch → Bool
 is_brief switch.Brief = true
@@ -78,7 +94,13 @@ keeps_names _ = false
 -- Externals stand in Ifs
 abbrev pub wraps_externals : Switch → Bool
 wraps_externals switch.WrappedExternals = true
+wraps_externals switch.Acpica = true
 wraps_externals _ = false
+
+-- outputs are named as ACPICA's compiler names them
+abbrev pub is_acpica : Switch → Bool
+is_acpica switch.Acpica = true
+is_acpica _ = false
 
 abbrev pub no_switch : Switches
 no_switch = record {
@@ -92,6 +114,7 @@ no_switch = record {
   shorten =
       true;
   wrap = false;
+  acpica = false;
 }
 
 -- what switches ask for, with one more
@@ -106,4 +129,5 @@ with_switch switches one = record {
   short = switches.short && not (keeps_integers one);
   shorten = switches.shorten && not (keeps_names one);
   wrap = switches.wrap || wraps_externals one;
+  acpica = switches.acpica || is_acpica one;
 }

@@ -20,11 +20,11 @@ fn read(alloc: Global, words: &[String]) -> Result<Options, WordsStop>
             Step::Spoilt => return Err(WordsStop::Bad { word: number }),
         }
     }
-    draft.finish(waiting, words.len())
+    draft.finish(alloc, waiting, words.len())
 }
 
 /// What the words of a call ask for, or the word that spoils them. The options are: `-p P`, `-I DIR`, `-D NAME` or
-/// `-D NAME=TEXT`, `-P`, `-Pn`, `-vi` and `-we`, and one file, in any order (docs/OPTIONS.md).
+/// `-D NAME=TEXT`, those without a value (`Switch`), and one file, in any order (docs/OPTIONS.md).
 #[tactic(auto, using(crate::proofs::OneOffending::answer_rules))]
 pub fn options(alloc: Global, words: &[String]) -> Result<Options, WordsStop>
     // What is answered is asked for by the words, which are a command line.

@@ -1,8 +1,9 @@
 //! What some first words ask for.
 ghost use Rattle.std.specs.Prelude.{◌≡◌, if◌then◌else◌, Some, None, IfOk};
-ghost use Rattle.iasl_options.specs.Asking.{with_setting, settled, may_open, one_more, behind_word, at_end, nothing};
+ghost use Rattle.iasl_options.specs.Asking.{with_setting, settled, may_open, one_more, behind_word, at_end, nothing, front_of};
 ghost use Rattle.iasl_options.specs.Shown.{shown_setting, shown_word, asked_in, stepped, Answers};
 
+use crate::names::stem_of;
 use crate::request::{Options, WordsStop};
 use crate::switches::Switches;
 use crate::words::{Key, Setting, Word, with_value, word_of};
@@ -41,6 +42,16 @@ impl Drop for Draft {
 pub(crate) enum Step {
     Next(Option<Key>),
     Spoilt,
+}
+
+// The front of the output names, where a prefix is given: with `--acpica` without its extension.
+fn front_of(alloc: Global, acpica: bool, prefix: Option<Text>) -> Result<Option<Text>, AllocError>
+    ensures { IfOk result (λ front. front ≡ front_of acpica prefix) }
+{
+    match prefix {
+        Some(prefix) if acpica => Ok(Some(Text::from_bytes(alloc, stem_of(prefix.as_bytes()))?)),
+        other => Ok(other),
+    }
 }
 
 impl Draft {
@@ -146,7 +157,12 @@ impl Draft {
     }
 
     // The words are used up, so many of them: what they ask for, or that more would be needed.
-    pub(crate) fn finish(self, waiting: Option<Key>, count: usize) -> Result<Options, WordsStop>
+    pub(crate) fn finish(
+        self,
+        alloc: Global,
+        waiting: Option<Key>,
+        count: usize,
+    ) -> Result<Options, WordsStop>
         ensures { Answers result (at_end (asked_in self) waiting (asked_in self).file count) }
     {
         let Draft {
@@ -161,7 +177,7 @@ impl Draft {
         match (waiting, file) {
             (None, Some(file)) => Ok(Options {
                 file,
-                prefix,
+                prefix: front_of(alloc, switches.acpica, prefix)?,
                 dirs,
                 defines,
                 only,

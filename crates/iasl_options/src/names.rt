@@ -35,7 +35,7 @@ fn found_behind(found: Option<usize>, at: usize, byte: u8) -> Option<usize>
 }
 
 // The file's name without its extension.
-fn stem_of(file: &[u8]) -> &[u8]
+pub(crate) fn stem_of(file: &[u8]) -> &[u8]
     ensures { result.now ≡ spec.stem_of file.now }
 {
     match extension_at(file) {

@@ -1,7 +1,6 @@
 //! Options without value that may stand together with every other.
 ghost use Rattle.std.specs.Prelude.{◌≡◌, ◌||◌, ◌&&◌, not, None};
 ghost use Rattle.iasl_options.specs.Switches as spec;
-ghost use Rattle.iasl_options.specs.declared.switches.Switch.TheVariants as variants;
 
 /// One such option.
 #[derive(Clone, Copy, Debug, PartialEq, Eq)]
@@ -26,6 +25,16 @@ pub(crate) enum Switch {
     Unoptimised,
     /// `--wrap-externals`: Externals stand in Ifs that nothing enters.
     WrappedExternals,
+    /// `--acpica`: outputs are named, and Externals written, as ACPICA's compiler does.
+    Acpica,
+    /// `-vs`: the program does not tell its name; it never does beside a compilation.
+    NoSignon,
+    /// `-w1`: warnings of the first level are told. All warnings are of the first level.
+    FirstLevel,
+    /// `-w2`: those of the second too.
+    SecondLevel,
+    /// `-w3`: those of the third too.
+    ThirdLevel,
 }
 
 /// What the switches of a command line ask for.
@@ -47,18 +56,36 @@ pub struct Switches {
     pub short: bool,
     /// Whether names have their shortest spelling (not with `-on` and `-oa`).
     pub shorten: bool,
-    /// Whether Externals stand in Ifs that nothing enters (`--wrap-externals`).
+    /// Whether Externals stand in Ifs that nothing enters (`--wrap-externals` and `--acpica`).
     pub wrap: bool,
+    /// Whether outputs are named as ACPICA's compiler names them (`--acpica`).
+    pub acpica: bool,
 }
 
-// The switch that is written so, with two hyphens.
-fn long_switch(word: &[u8]) -> Option<Switch>
-    ensures { result ≡ spec.or_other word.now variants.WrappedExternals None }
+// The further switches, of the words that ACPICA's compiler has or that are our own.
+fn further_switch(word: &[u8]) -> Option<Switch>
+    ensures { result ≡ spec.further_of word.now }
 {
     if word == b"--wrap-externals".as_slice() {
         return Some(Switch::WrappedExternals);
     }
-    None
+    if word == b"--acpica".as_slice() {
+        return Some(Switch::Acpica);
+    }
+    level_switch(word)
+}
+
+// The switches that change nothing here.
+fn level_switch(word: &[u8]) -> Option<Switch>
+    ensures { result ≡ spec.level_of word.now }
+{
+    match word {
+        b"-vs" => Some(Switch::NoSignon),
+        b"-w1" => Some(Switch::FirstLevel),
+        b"-w2" => Some(Switch::SecondLevel),
+        b"-w3" => Some(Switch::ThirdLevel),
+        _ => None,
+    }
 }
 
 /// The switch that is written so.
@@ -75,7 +102,7 @@ pub(crate) fn switch_of(word: &[u8]) -> Option<Switch>
         b"-on" => Some(Switch::WrittenNames),
         b"-of" => Some(Switch::Unfolded),
         b"-oa" => Some(Switch::Unoptimised),
-        _ => long_switch(word),
+        _ => further_switch(word),
     }
 }
 
@@ -130,7 +157,13 @@ fn keeps_names(switch: Switch) -> bool
 fn wraps_externals(switch: Switch) -> bool
     ensures { result ≡ spec.wraps_externals switch }
 {
-    matches!(switch, Switch::WrappedExternals)
+    matches!(switch, Switch::WrappedExternals | Switch::Acpica)
+}
+
+fn is_acpica(switch: Switch) -> bool
+    ensures { result ≡ spec.is_acpica switch }
+{
+    matches!(switch, Switch::Acpica)
 }
 
 // Whether one thing is asked for, or the other.
@@ -162,6 +195,7 @@ impl Switches {
             short: true,
             shorten: true,
             wrap: false,
+            acpica: false,
         }
     }
 
@@ -179,6 +213,7 @@ impl Switches {
             short: unless(self.short, keeps_integers(switch)),
             shorten: unless(self.shorten, keeps_names(switch)),
             wrap: either(self.wrap, wraps_externals(switch)),
+            acpica: either(self.acpica, is_acpica(switch)),
         }
     }
 }

@@ -1,4 +1,5 @@
 use host_ports::host::{HostFiles, HostOutputs, HostSink};
+use host_ports::program_text::{ProgramText, program_text};
 use iasl_ports::files::{FetchFault, Files, MOST_BYTES};
 use iasl_ports::outputs::{Outputs, PutFault};
 use iasl_ports::sink::write_all;
@@ -14,7 +15,7 @@ fn put_one<O: Outputs>(outs: &mut O, name: &str, bytes: &[u8]) -> Result<(), Put
 
 #[test]
 fn the_host_has_what_was_put(rt: HostRuntime) {
-    let mut outs = HostOutputs::new(rt);
+    let mut outs = HostOutputs::new(rt.alloc(), rt);
     assert!(rt; put_one(&mut outs, "made.bin", b"hello") == Ok(()));
     assert!(rt; put_one(&mut outs, "no/such/dir/made.bin", b"hello") == Err(PutFault::Failed));
     let mut files = HostFiles::new(rt);
@@ -58,7 +59,7 @@ static SIZES: [usize; 2] = [300_000, MOST_BYTES];
 
 #[test]
 fn large_files_are_put_and_fetched_whole(rt: HostRuntime) -> Result<(), AllocError> {
-    let mut outs = HostOutputs::new(rt);
+    let mut outs = HostOutputs::new(rt.alloc(), rt);
     let mut files = HostFiles::new(rt);
     for count in &SIZES {
         let bytes = some_bytes(rt.alloc(), *count)?;
@@ -73,9 +74,33 @@ fn large_files_are_put_and_fetched_whole(rt: HostRuntime) -> Result<(), AllocErr
 #[test]
 fn a_file_of_a_byte_more_is_too_large(rt: HostRuntime) -> Result<(), AllocError> {
     let bytes = vec![in rt.alloc(); b'x'; MOST_BYTES + 1]?;
-    let mut outs = HostOutputs::new(rt);
+    let mut outs = HostOutputs::new(rt.alloc(), rt);
     let mut files = HostFiles::new(rt);
     assert!(rt; put_one(&mut outs, "larger.bin", &bytes) == Ok(()));
     assert!(rt; fetch_len(&mut files, rt.alloc(), "larger.bin") == Err(FetchFault::TooLarge));
+    Ok(())
+}
+
+// What words ask of the program itself.
+static TEXTS: [(&[&str], Option<ProgramText>); 8] = [
+    (&["-h"], Some(ProgramText::Help)),
+    (&["--help"], Some(ProgramText::Help)),
+    (&["-v"], Some(ProgramText::Version)),
+    (&["--version"], Some(ProgramText::Version)),
+    (&[], None),
+    (&["-V"], None),
+    (&["-h", "t.asl"], None),
+    (&["t.asl"], None),
+];
+
+#[test]
+fn one_word_alone_asks_for_a_text(rt: HostRuntime) -> Result<(), AllocError> {
+    for (words, wanted) in &TEXTS {
+        let mut given = Vec::new(rt.alloc());
+        for word in words.iter() {
+            given.push(String::from_str(rt.alloc(), word)?)?;
+        }
+        assert!(rt; program_text(&given) == *wanted);
+    }
     Ok(())
 }

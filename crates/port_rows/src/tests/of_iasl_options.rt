@@ -79,6 +79,7 @@ const NONE: Switches = Switches {
     short: true,
     shorten: true,
     wrap: false,
+    acpica: false,
 };
 
 // What `t.asl` alone asks for.
@@ -94,8 +95,32 @@ const PLAIN: Good = Good {
 };
 
 // Words that are taken, each with what they ask for.
-static GOOD_WORDS: [Good; 21] = [
+static GOOD_WORDS: [Good; 24] = [
     PLAIN,
+    Good {
+        words: &["-p", "d.x/dsdt.aml", "--acpica", "t.asl"],
+        prefix: Some(b"d.x/dsdt"),
+        switches: Switches {
+            wrap: true,
+            acpica: true,
+            ..NONE
+        },
+        ..PLAIN
+    },
+    Good {
+        words: &["--acpica", "-pd.x/dsdt", "t.asl"],
+        prefix: Some(b"d.x/dsdt"),
+        switches: Switches {
+            wrap: true,
+            acpica: true,
+            ..NONE
+        },
+        ..PLAIN
+    },
+    Good {
+        words: &["-vs", "-w1", "t.asl", "-w2", "-w3"],
+        ..PLAIN
+    },
     Good {
         words: &["-p", "out", "t.asl"],
         prefix: Some(b"out"),
