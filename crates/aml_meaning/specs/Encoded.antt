@@ -12,6 +12,7 @@ use Rattle.asl_tree.specs.Tree.{VarPackage, CondRefOf, Return, Name, Alias, Exte
 use Rattle.asl_tree.specs.Tree.{Misshapen, Operated, Assigned, AssignedBy, Trees, no_trees, tree, UnitName, OperationRegion, Field}
 use Rattle.asl_tree.specs.Tree.{IndexField, BankField, CreateField, If, ElseIf, Else, While, Break, Continue, Item, Switch, Case, Default}
 use Rattle.asl_tree.specs.Tree.{For, Print}
+use Rattle.else_runs.specs.Runs.{nested_all}
 use Rattle.acpi_state.specs.Objects.{Container, ThermalZone, PowerResource, Processor}
 use Rattle.aml_meaning.specs.Codes.{Code, PlainCode, SlotCode, DebugCode, OmittedCode, StringCode, BufferCode, PackageCode, VarPackageCode}
 use Rattle.aml_meaning.specs.Codes.{CondRefOfCode, NameCode, AliasCode, ScopeCode, MethodCode, ExternalCode, MutexCode, EventCode}
@@ -134,6 +135,10 @@ abbrev mutual
   encoded_all width short no_trees = []
   encoded_all width short (tree term terms) = encoded width short term ++ encoded_all width short terms
 
+-- a list of terms, of which bytes have the runs of If, ElseIf and Else one in another
+abbrev pub encoded_terms : Width → Bool → Trees → List ℕ
+encoded_terms width short terms = encoded_all width short (nested_all terms)
+
 -- a block as a table, at the width that its revision gives
 abbrev pub encoded_block : Bool → Block → List ℕ
-encoded_block short block = table_bytes (fields_of block) (encoded_all (width_of block.revision) short (trees_of block.terms.items))
+encoded_block short block = table_bytes (fields_of block) (encoded_terms (width_of block.revision) short (trees_of block.terms.items))

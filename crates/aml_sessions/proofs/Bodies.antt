@@ -26,7 +26,7 @@ pub record Setting : Type 0 where
 
 -- a body is ready, and no package in it is too long
 pub record IsKept (given : Setting) (path : AbsolutePath) (body : Trees) : Type 0 where
-  pub ready : AreReady given.known body path
+  pub ready : AreReady ⊥ given.known body path
   pub fits : length (encoded_all given.width given.short body) + 4 < 2 ^ 28
 
 -- the other side keeps bodies as bytes

@@ -1,5 +1,5 @@
 -- The walk over the list of a field makes the units of the list.
-use Rattle.std.proofs.Common.{◌≡◌, ℕ, zero, suc, ◌+◌, ◌-◌, ◌*◌, ◌%◌, ◌^◌, ◌<◌, ◌≤◌, Bool, true, false, List, [], ◌∷◌, ◌++◌, length, Option, Some, None, refl, ap, ◌∙◌, arith, length-append, le_refl}
+use Rattle.std.proofs.Common.{◌≡◌, ℕ, zero, suc, ◌+◌, ◌-◌, ◌*◌, ◌%◌, ◌^◌, ◌<◌, ◌≤◌, Bool, true, false, List, [], ◌∷◌, ◌++◌, length, Some, None, refl, ap, ◌∙◌, arith, length-append, le_refl}
 use Rattle.std.specs.Prelude.{nat_eq, if◌then◌else◌}
 use Rattle.std.proofs.lemmas.Bool.Decides.{nat_tests}
 use Rattle.acpi_values.specs.declared.width.Width.{Width}
@@ -14,8 +14,8 @@ use Rattle.asl_tree.specs.Tree.{UnitName}
 use Rattle.asl_meaning.specs.Meaning as S
 use Rattle.acpi_state.specs.Registers.{register_of}
 use Rattle.asl_meaning.specs.FieldTerms.{Cursor, first_unit, behind_bits, accessed, connected_to, resource_of, create_unit, connect, create_units}
-use Rattle.aml_code.specs.Fronts.{bit_count_front, segment_front, integer_front, is_segment, is_lead_character}
-use Rattle.aml_code.specs.Encoding.{name_bytes, bit_count_bytes, packed, prefixed_bytes, package_length_bytes}
+use Rattle.aml_code.specs.Fronts.{bit_count_front, is_segment, is_lead_character}
+use Rattle.aml_code.specs.Encoding.{name_bytes, bit_count_bytes, prefixed_bytes, package_length_bytes}
 use Rattle.aml_meaning.specs.Encoded.{connected_bytes, items_bytes, field_bytes}
 use Rattle.aml_meaning.specs.ByteMeaning as B
 use Rattle.aml_meaning.specs.ByteMeaning.{ByteRun, with_front, followed_by, ItemCode, GapCode, AccessCode, ConnectionCode, LongAccessCode, UnitCode, item_code}

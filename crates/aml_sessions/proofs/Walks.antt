@@ -96,7 +96,7 @@ module _ (given : Setting) where
   EA ts = encoded_all given.width given.short ts
 
   abbrev Ready : Tree → AbsolutePath → Type 0
-  Ready t scope = IsReady given.known t scope
+  Ready t scope = IsReady ⊥ given.known t scope
 
   literal_some : (literal : Literal) → 1 ≤ length (literal_bytes literal)
   literal_some Literal.Zero = omega arith
@@ -147,7 +147,7 @@ module _ (given : Setting) where
   encoded_some (Operated op args) scope ready = absurd ready
   encoded_some (Assigned target value) scope ready = absurd ready
   encoded_some (AssignedBy op target value) scope ready = absurd ready
-  encoded_some (ElseIf test body) scope ready = absurd ready
+  encoded_some (ElseIf test body) scope ready = absurd ready.0
   encoded_some (Switch value cases) scope ready = absurd ready
   encoded_some (Case value body) scope ready = absurd ready
   encoded_some (Default body) scope ready = absurd ready
@@ -229,7 +229,7 @@ module _ (given : Setting) where
   agree_place (Operated op args) scope rest e ready = absurd ready
   agree_place (Assigned target value) scope rest e ready = absurd ready
   agree_place (AssignedBy op target value) scope rest e ready = absurd ready
-  agree_place (ElseIf test body) scope rest e ready = absurd ready
+  agree_place (ElseIf test body) scope rest e ready = absurd ready.0
   agree_place (Switch value cases) scope rest e ready = absurd ready
   agree_place (Case value body) scope rest e ready = absurd ready
   agree_place (Default body) scope rest e ready = absurd ready
@@ -239,9 +239,9 @@ module _ (given : Setting) where
 
   -- an operand as its letter asks
   agree_letter : (letter : Letter) (t : Tree) (scope : AbsolutePath) (rest : List ℕ) (w : Walk) (m : SourceRun Flow) (spot : SourceRun Spot) →
-      LetterReady given.known letter t ((is_expression t ≡ true) × Ready t scope) (IsSpot given.known t scope) scope →
+      LetterReady given.known letter t ((is_expression t ≡ true) × Ready t scope) (IsSpot ⊥ given.known t scope) scope →
       ((is_expression t ≡ true) × Ready t scope → Agree (as_bytes given) Any (λ v. (v, rest)) (then_run m value_of) (B.operand w (E t ++ rest) scope)) →
-      (IsSpot given.known t scope → Agree (as_bytes given) Any (λ p. (p, rest)) spot (B.spot w (E t ++ rest) scope)) →
+      (IsSpot ⊥ given.known t scope → Agree (as_bytes given) Any (λ p. (p, rest)) spot (B.spot w (E t ++ rest) scope)) →
       Agree (as_bytes given) Any (λ o. (o, rest)) (S.operand_by given.width given.known letter t m spot scope) (B.lettered w letter (E t ++ rest) scope)
   agree_letter Valued t scope rest w m spot ready hv hs =
       agree_then (as_bytes given) Any (λ o. (o, rest)) _ (hv ready) (λ v any. agree_done (as_bytes given) Any (λ o. (o, rest)) (OfValue v) tt)
@@ -321,7 +321,7 @@ module _ (given : Setting) (turns : ℕ) (call : AbsolutePath → List Value →
       (agree_plain given op _ (λ rs. S.store_all given.width given.known turns call targets rs scope) (W n) (row_of op).operands (count targets) after (EA given targets ++ rest) rest scope ho ht)
 
   -- a place, of which a name may lead nowhere
-  agree_cond : (t : Tree) (scope : AbsolutePath) (n : ℕ) (rest : List ℕ) → CondReady given.known t (IsSpot given.known t scope) scope → (IsSpot given.known t scope → Agree (as_bytes given) Any (λ p. (p, rest)) (S.spot given.width given.known turns call t scope) (B.spot (W n) (E given t ++ rest) scope)) →
+  agree_cond : (t : Tree) (scope : AbsolutePath) (n : ℕ) (rest : List ℕ) → CondReady given.known t (IsSpot ⊥ given.known t scope) scope → (IsSpot ⊥ given.known t scope → Agree (as_bytes given) Any (λ p. (p, rest)) (S.spot given.width given.known turns call t scope) (B.spot (W n) (E given t ++ rest) scope)) →
       Agree (as_bytes given) Any (λ o. (o, rest)) (S.cond_by given.width given.known t (S.spot given.width given.known turns call t scope) scope) (B.cond_spot given.width (W n) (E given t ++ rest) scope)
   agree_cond (Use at name) scope n rest ready h =
       agree_to (as_bytes given) (lead_step name rest (B.cond_name given.width scope) _ ready.used)
@@ -515,7 +515,7 @@ module _ (given : Setting) (turns : ℕ) (call : AbsolutePath → List Value →
         ∙ ap (followed_by rest) (name_step name (EA given body) (λ name body. then_run (B.find name scope) (λ path. B.body_terms (W n) path body)) ready.1.used.is_name))
         (agree_followed given rest
         (agree_then (as_bytes given) Any (λ f. f) _ (agree_find given name scope ready.0 ready.1)
-        (λ path is. agree_terms body path false n (length (EA given body)) (subst (AreReady given.known body) (sym is) ready.2) shorter (le_refl _) (omega (arith, fits)))))
+        (λ path is. agree_terms body path false n (length (EA given body)) (subst (AreReady ⊥ given.known body) (sym is) ready.2) shorter (le_refl _) (omega (arith, fits)))))
     agree_run (If test body) scope due (suc n) rest ready le fits =
         let content = E given test ++ EA given body in
         let inside : length content ≤ n = omega (arith, le, length-append (package_length_bytes (length content)) content) in
@@ -621,7 +621,7 @@ module _ (given : Setting) (turns : ℕ) (call : AbsolutePath → List Value →
     agree_run (Operated op args) scope due (suc n) rest ready le fits = absurd ready
     agree_run (Assigned target value) scope due (suc n) rest ready le fits = absurd ready
     agree_run (AssignedBy op target value) scope due (suc n) rest ready le fits = absurd ready
-    agree_run (ElseIf test body) scope due (suc n) rest ready le fits = absurd ready
+    agree_run (ElseIf test body) scope due (suc n) rest ready le fits = absurd ready.0
     agree_run (Switch value cases) scope due (suc n) rest ready le fits = absurd ready
     agree_run (Case value body) scope due (suc n) rest ready le fits = absurd ready
     agree_run (Default body) scope due (suc n) rest ready le fits = absurd ready
@@ -630,7 +630,7 @@ module _ (given : Setting) (turns : ℕ) (call : AbsolutePath → List Value →
     agree_run Misshapen scope due (suc n) rest ready le fits = absurd ready
 
     -- a term that stands for a place
-    pub agree_spot : (t : Tree) (scope : AbsolutePath) (n : ℕ) (rest : List ℕ) → IsSpot given.known t scope → length (E given t) ≤ n → n + 4 < 2 ^ 28 → Agree (as_bytes given) Any (λ p. (p, rest)) (S.spot given.width given.known turns call t scope) (B.spot (W n) (E given t ++ rest) scope)
+    pub agree_spot : (t : Tree) (scope : AbsolutePath) (n : ℕ) (rest : List ℕ) → IsSpot ⊥ given.known t scope → length (E given t) ≤ n → n + 4 < 2 ^ 28 → Agree (as_bytes given) Any (λ p. (p, rest)) (S.spot given.width given.known turns call t scope) (B.spot (W n) (E given t ++ rest) scope)
     agree_spot Omitted scope n rest ready le fits =
         agree_to (as_bytes given) (opcode_step OmittedCode rest (with_front (name_front (code_bytes OmittedCode ++ rest)) (B.named_spot scope)) (B.spot_of_code (W n) (code_bytes OmittedCode ++ rest) scope) tt) (agree_done (as_bytes given) Any (λ p. (p, rest)) Nowhere tt)
     agree_spot Debug scope n rest ready le fits =
@@ -648,14 +648,14 @@ module _ (given : Setting) (turns : ℕ) (call : AbsolutePath → List Value →
         agree_to (as_bytes given)
         (ap (λ bs. B.spot (W (suc n)) bs scope) (apply_bytes given op args targets rest)
         ∙ opcode_step (PlainCode op) after _ (B.spot_of_code (W (suc n)) (code_bytes (PlainCode op) ++ after) scope) ready.0)
-        (agree_spot_form given (spot_form op) (AreOperands given.known (row_of op).operands args scope × (count targets ≡ (row_of op).targets) × AreSpots given.known targets scope) (IsAlone given.known args targets scope) _ _ (W (suc n)) (code_bytes (PlainCode op) ++ after) after rest scope ready.1
+        (agree_spot_form given (spot_form op) (AreOperands ⊥ given.known (row_of op).operands args scope × (count targets ≡ (row_of op).targets) × AreSpots ⊥ given.known targets scope) (IsAlone ⊥ given.known args targets scope) _ _ (W (suc n)) (code_bytes (PlainCode op) ++ after) after rest scope ready.1
         (λ whole. agree_apply op args targets scope false n rest ready.0 whole.1
         (agree_operands (row_of op).operands args scope n (EA given targets ++ rest) whole.0 inside.0 (omega (arith, fits)))
         (λ rs. agree_spots targets rs scope n rest whole.2 inside.1 (omega (arith, fits))))
         (λ alone. agree_alone args targets scope (suc n) rest alone (omega (arith, inside.0)) fits))
     agree_spot t scope n rest ready le fits = absurd ready
 
-    agree_alone : (args targets : Trees) (scope : AbsolutePath) (n : ℕ) (rest : List ℕ) → IsAlone given.known args targets scope → length (EA given args) ≤ n → n + 4 < 2 ^ 28 → Agree (as_bytes given) Any (λ v. (v, rest)) (S.first_value given.width given.known turns call args scope) (B.operand (W n) (EA given args ++ (EA given targets ++ rest)) scope)
+    agree_alone : (args targets : Trees) (scope : AbsolutePath) (n : ℕ) (rest : List ℕ) → IsAlone ⊥ given.known args targets scope → length (EA given args) ≤ n → n + 4 < 2 ^ 28 → Agree (as_bytes given) Any (λ v. (v, rest)) (S.first_value given.width given.known turns call args scope) (B.operand (W n) (EA given args ++ (EA given targets ++ rest)) scope)
     agree_alone (tree t no_trees) no_trees scope n rest ready le fits =
         agree_to (as_bytes given) (ap (λ bs. B.operand (W n) bs scope) (append_assoc (E given t) [] rest))
         (agree_operand given (is_expression t) (R t scope false) (W n) (E given t ++ rest) rest scope ready.0 (agree_run t scope false n rest ready.1 (omega (arith, le, length-append (E given t) [])) fits))
@@ -663,7 +663,7 @@ module _ (given : Setting) (turns : ℕ) (call : AbsolutePath → List Value →
     agree_alone (tree t (tree u us)) targets scope n rest ready le fits = absurd ready
     agree_alone no_trees targets scope n rest ready le fits = absurd ready
 
-    pub agree_operands : (letters : List Letter) (ts : Trees) (scope : AbsolutePath) (n : ℕ) (rest : List ℕ) → AreOperands given.known letters ts scope → length (EA given ts) ≤ n → n + 4 < 2 ^ 28 → Agree (as_bytes given) Any (λ os. (os, rest)) (S.operands given.width given.known turns call letters ts scope) (B.operands (W n) letters (EA given ts ++ rest) scope)
+    pub agree_operands : (letters : List Letter) (ts : Trees) (scope : AbsolutePath) (n : ℕ) (rest : List ℕ) → AreOperands ⊥ given.known letters ts scope → length (EA given ts) ≤ n → n + 4 < 2 ^ 28 → Agree (as_bytes given) Any (λ os. (os, rest)) (S.operands given.width given.known turns call letters ts scope) (B.operands (W n) letters (EA given ts ++ rest) scope)
     agree_operands [] no_trees scope n rest ready le fits = agree_done (as_bytes given) Any (λ os. (os, rest)) [] tt
     agree_operands [] (tree t ts) scope n rest ready le fits = absurd ready
     agree_operands (letter ∷ letters) no_trees scope n rest ready le fits = absurd ready
@@ -678,7 +678,7 @@ module _ (given : Setting) (turns : ℕ) (call : AbsolutePath → List Value →
         (λ o any. agree_then (as_bytes given) Any (λ os. (os, rest)) _ (agree_operands letters ts scope n rest ready.1 (omega (arith, whole, le)) fits)
         (λ os any. agree_done (as_bytes given) Any (λ os. (os, rest)) (o ∷ os) tt)))
 
-    pub agree_spots : (ts : Trees) (rs : List Value) (scope : AbsolutePath) (n : ℕ) (rest : List ℕ) → AreSpots given.known ts scope → length (EA given ts) ≤ n → n + 4 < 2 ^ 28 → Agree (as_bytes given) Any (λ u. rest) (S.store_all given.width given.known turns call ts rs scope) (B.store_all given.width (W n) (count ts) rs (EA given ts ++ rest) scope)
+    pub agree_spots : (ts : Trees) (rs : List Value) (scope : AbsolutePath) (n : ℕ) (rest : List ℕ) → AreSpots ⊥ given.known ts scope → length (EA given ts) ≤ n → n + 4 < 2 ^ 28 → Agree (as_bytes given) Any (λ u. rest) (S.store_all given.width given.known turns call ts rs scope) (B.store_all given.width (W n) (count ts) rs (EA given ts ++ rest) scope)
     agree_spots no_trees rs scope n rest ready le fits = agree_done (as_bytes given) Any (λ u. rest) tt tt
     agree_spots (tree t ts) [] scope n rest ready le fits = agree_fault (as_bytes given) Any (λ u. rest) _
     agree_spots (tree t ts) (r ∷ rs) scope n rest ready le fits =
@@ -687,7 +687,7 @@ module _ (given : Setting) (turns : ℕ) (call : AbsolutePath → List Value →
         (agree_then (as_bytes given) Any (λ u. rest) _ (agree_spot t scope n (EA given ts ++ rest) ready.0 (omega (arith, whole, le)) fits)
         (λ p any. agree_then (as_bytes given) Any (λ u. rest) _ (agree_act (as_bytes given) (store given.width p r)) (λ u any. agree_spots ts rs scope n rest ready.1 (omega (arith, whole, le)) fits)))
 
-    pub agree_values : (ts : Trees) (scope : AbsolutePath) (n : ℕ) (rest : List ℕ) → AreValues given.known ts scope → length (EA given ts) ≤ n → n + 4 < 2 ^ 28 → Agree (as_bytes given) (λ vs. length vs ≡ count ts) (λ vs. (vs, rest)) (S.values given.width given.known turns call ts scope) (B.values (W n) (count ts) (EA given ts ++ rest) scope)
+    pub agree_values : (ts : Trees) (scope : AbsolutePath) (n : ℕ) (rest : List ℕ) → AreValues ⊥ given.known ts scope → length (EA given ts) ≤ n → n + 4 < 2 ^ 28 → Agree (as_bytes given) (λ vs. length vs ≡ count ts) (λ vs. (vs, rest)) (S.values given.width given.known turns call ts scope) (B.values (W n) (count ts) (EA given ts ++ rest) scope)
     agree_values no_trees scope n rest ready le fits = agree_done (as_bytes given) (λ vs. length vs ≡ 0) (λ vs. (vs, rest)) [] refl
     agree_values (tree t ts) scope n rest ready le fits =
         let whole = length-append (E given t) (EA given ts) in
@@ -698,7 +698,7 @@ module _ (given : Setting) (turns : ℕ) (call : AbsolutePath → List Value →
         (λ v any. agree_then (as_bytes given) (λ vs. length vs ≡ count (tree t ts)) (λ vs. (vs, rest)) _ (agree_values ts scope n rest ready.2 (omega (arith, whole, le)) fits)
         (λ vs size. agree_done (as_bytes given) (λ vs. length vs ≡ count (tree t ts)) (λ vs. (vs, rest)) (v ∷ vs) (ap suc size))))
 
-    pub agree_elements : (ts : Trees) (scope : AbsolutePath) (n k : ℕ) → AreElements given.known ts scope → length (EA given ts) ≤ n → length (EA given ts) ≤ k → n + 4 < 2 ^ 28 → Agree (as_bytes given) Any (λ es. es) (S.elements given.width given.known turns call ts scope) (B.elements given.width (W n) k (EA given ts) scope)
+    pub agree_elements : (ts : Trees) (scope : AbsolutePath) (n k : ℕ) → AreElements ⊥ given.known ts scope → length (EA given ts) ≤ n → length (EA given ts) ≤ k → n + 4 < 2 ^ 28 → Agree (as_bytes given) Any (λ es. es) (S.elements given.width given.known turns call ts scope) (B.elements given.width (W n) k (EA given ts) scope)
     agree_elements no_trees scope n k ready le le' fits = agree_done (as_bytes given) Any (λ es. es) no_elements tt
     agree_elements (tree t ts) scope n zero ready le le' fits = absurd (omega (arith, element_some given t scope ready.0, le', length-append (E given t) (EA given ts)))
     agree_elements (tree t ts) scope n (suc k) ready le le' fits =
@@ -710,7 +710,7 @@ module _ (given : Setting) (turns : ℕ) (call : AbsolutePath → List Value →
         (λ v any. agree_then (as_bytes given) Any (λ es. es) _ (agree_elements ts scope n k ready.1 (omega (arith, whole, le)) (omega (arith, whole, some, le')) fits)
         (λ es any. agree_done (as_bytes given) Any (λ es. es) (element v es) tt)))
 
-    pub agree_terms : (ts : Trees) (scope : AbsolutePath) (due : Bool) (n k : ℕ) → AreReady given.known ts scope → length (EA given ts) ≤ n → length (EA given ts) ≤ k → n + 4 < 2 ^ 28 → Agree (as_bytes given) Any (λ f. f) (S.run_all given.width given.known turns call ts scope due) (B.walk_all (W n) k (EA given ts) scope due)
+    pub agree_terms : (ts : Trees) (scope : AbsolutePath) (due : Bool) (n k : ℕ) → AreReady ⊥ given.known ts scope → length (EA given ts) ≤ n → length (EA given ts) ≤ k → n + 4 < 2 ^ 28 → Agree (as_bytes given) Any (λ f. f) (S.run_all given.width given.known turns call ts scope due) (B.walk_all (W n) k (EA given ts) scope due)
     agree_terms no_trees scope due n k ready le le' fits = agree_done (as_bytes given) Any (λ f. f) (Normal false) tt
     agree_terms (tree t ts) scope due n zero ready le le' fits = absurd (omega (arith, encoded_some given t scope ready.0, le', length-append (E given t) (EA given ts)))
     agree_terms (tree t ts) scope due n (suc k) ready le le' fits =

@@ -20,6 +20,7 @@ use Rattle.asl_tree.specs.Tree.{Misshapen, Operated, Assigned, AssignedBy, Trees
 use Rattle.asl_tree.specs.Tree.{IndexField, BankField, CreateField, UnitName, If, ElseIf, Else, While, Break, Continue, Item, Switch, Case}
 use Rattle.asl_tree.specs.Tree.{Default, For, Print}
 use Rattle.asl_tree.specs.View.{trees_of}
+use Rattle.else_runs.specs.Runs.{nested_all}
 use Rattle.aml_code.specs.Fronts.{IsName, IsUsedName, is_segment}
 use Rattle.aml_meaning.specs.Codes.{HasOwnCode, IsSlot}
 
@@ -188,6 +189,8 @@ module _ (known : Known) where
   ElementReady (Use at name) ready = IsElementName known name
   ElementReady t ready = (is_constant t ≡ true) × ready
 
+-- a tree in which an ElseIf stands where that is `Branches`
+module _ (Branches : Type 0) (known : Known) where
   -- numbers fit their bits, names can be written and are found, and each form has what it asks for
   abbrev mutual
     pub IsReady : Tree → AbsolutePath → Type 0
@@ -241,7 +244,7 @@ module _ (known : Known) where
     IsReady (Operated op args) scope = ⊥
     IsReady (Assigned target value) scope = ⊥
     IsReady (AssignedBy op target value) scope = ⊥
-    IsReady (ElseIf test body) scope = ⊥
+    IsReady (ElseIf test body) scope = Branches × (is_expression test ≡ true) × IsReady test scope × AreReady body scope
     IsReady (Switch value cases) scope = ⊥
     IsReady (Case value body) scope = ⊥
     IsReady (Default body) scope = ⊥
@@ -268,7 +271,7 @@ module _ (known : Known) where
     pub AreOperands : List Letter → Trees → AbsolutePath → Type 0
     AreOperands [] no_trees scope = Unit {0}
     AreOperands (letter ∷ letters) (tree t ts) scope =
-        LetterReady letter t ((is_expression t ≡ true) × IsReady t scope) (IsSpot t scope) scope × AreOperands letters ts scope
+        LetterReady known letter t ((is_expression t ≡ true) × IsReady t scope) (IsSpot t scope) scope × AreOperands letters ts scope
     AreOperands _ _ scope = ⊥
 
     pub AreSpots : Trees → AbsolutePath → Type 0
@@ -281,16 +284,16 @@ module _ (known : Known) where
 
     pub AreElements : Trees → AbsolutePath → Type 0
     AreElements no_trees scope = Unit {0}
-    AreElements (tree t ts) scope = ElementReady t (IsReady t scope) × AreElements ts scope
+    AreElements (tree t ts) scope = ElementReady known t (IsReady t scope) × AreElements ts scope
 
     pub AreReady : Trees → AbsolutePath → Type 0
     AreReady no_trees scope = Unit {0}
     AreReady (tree term terms) scope = IsReady term scope × AreReady terms scope
 
--- the header's texts have room, and the terms are ready
+-- the header's texts have room, and the terms are ready, in which an ElseIf is an If in an Else
 pub record IsReadyBlock (known : Known) (block : Block) : Type 0 where
   pub signature : length block.signature ≡ 4
   pub oem_id : length block.oem_id ≤ 6
   pub table_id : length block.table_id ≤ 8
   pub oem_revision : block.oem_revision < 2 ^ 32
-  pub terms : AreReady known (trees_of block.terms.items) []
+  pub terms : AreReady ⊥ known (nested_all (trees_of block.terms.items)) []

@@ -30,7 +30,7 @@ use Rattle.aml_sizes.specs.TermBytes.{number_bytes, head_bytes, missing_bytes, p
 use Rattle.aml_sizes.proofs.FormLeaves.{tree_leaf, tree_leaves}
 use Rattle.aml_sizes.proofs.FieldLists.{IsWritten}
 
--- names and slots can be written, and no form is out of shape
+-- names and slots can be written, no form is out of shape, and none holds a list of terms
 abbrev mutual
   pub IsWhole : Tree → Type 0
   IsWhole (InSlot slot) = IsSlot slot
@@ -45,14 +45,14 @@ abbrev mutual
   IsWhole (Name at name value) = IsName name × IsWhole value
   IsWhole (Alias from source at name) = IsName source × IsName name
   IsWhole (External here at name type parameters) = IsName name
-  IsWhole (Method at name flags body) = IsName name × AreWhole body
+  IsWhole (Method at name flags body) = ⊥
   IsWhole (Mutex at name level) = IsName name
   IsWhole (Event at name) = IsName name
-  IsWhole (Container' kind at name body) = IsName name × AreWhole body
-  IsWhole (Scope here at name body) = IsName name × AreWhole body
-  IsWhole (If test body) = IsWhole test × AreWhole body
-  IsWhole (Else body) = AreWhole body
-  IsWhole (While test body) = IsWhole test × AreWhole body
+  IsWhole (Container' kind at name body) = ⊥
+  IsWhole (Scope here at name body) = ⊥
+  IsWhole (If test body) = ⊥
+  IsWhole (Else body) = ⊥
+  IsWhole (While test body) = ⊥
   IsWhole (OperationRegion at name space args) = IsName name × AreWhole args
   IsWhole (Field here from region flags items) = IsName region × AreItems 0 items
   IsWhole (IndexField here from index to register flags items) = IsName index × IsName register × AreItems 0 items
@@ -178,7 +178,7 @@ module _ (style : IntegerStyle) where
   apply_is (Plain.Number IntOp.LGreaterEqual) args h = not_is IntOp.LLess args h.0.0.0
   apply_is op args h = plain_is (row_of op).code _ _ (split (row_of op).operands args h.0)
 
-  packed_is : (code front content bytes : List ℕ) → front ++ content ≡ bytes → (code ++ (package_length_bytes (length front + length content) ++ front)) ++ content ≡ code ++ packed bytes
+  pub packed_is : (code front content bytes : List ℕ) → front ++ content ≡ bytes → (code ++ (package_length_bytes (length front + length content) ++ front)) ++ content ≡ code ++ packed bytes
   packed_is code front content bytes e =
       let head = package_length_bytes (length front + length content) in
       append_assoc code (head ++ front) content
@@ -234,18 +234,14 @@ module _ (style : IntegerStyle) where
   form_is here (Op.Declaration Declaration.Alias) (tree (Use from source) (tree (Use at name) no_trees)) no_trees list h w = plain_is (0x06 ∷ []) _ _ (ap (λ bs. name_bytes source ++ bs) (append-nil (name_bytes name)))
   form_is here (Op.Declaration Declaration.External) (tree (Use at name) (tree (Integer type) no_trees)) no_trees list h w = ap (λ bs. 0x15 ∷ bs) (append_assoc (name_bytes name) ((type % 256) ∷ []) (0x00 ∷ []))
   form_is here (Op.Declaration Declaration.External) (tree (Use at name) (tree (Integer type) (tree (Integer count) no_trees))) no_trees list h w = append-nil _
-  form_is here (Op.Declaration Declaration.Method) (tree (Use at name) (tree (Integer arity) no_trees)) body list h w = packed_is (0x14 ∷ []) (name_bytes name ++ (arity % 256) ∷ []) (encoded_all style.width style.short body) (name_bytes name ++ (arity % 256) ∷ encoded_all style.width style.short body) (append_assoc (name_bytes name) ((arity % 256) ∷ []) (encoded_all style.width style.short body))
+  form_is here (Op.Declaration Declaration.Method) (tree (Use at name) (tree (Integer arity) no_trees)) body list h w = absurd h
   form_is here (Op.Declaration Declaration.Mutex) (tree (Use at name) (tree (Integer level) no_trees)) no_trees list h w = append-nil _
   form_is here (Op.Declaration Declaration.Event) (tree (Use at name) no_trees) no_trees list h w = plain_is (0x5B ∷ 0x02 ∷ []) _ _ (append-nil (name_bytes name))
-  form_is here (Op.Declaration Declaration.Device) (tree (Use at name) no_trees) body list h w = packed_is (0x5B ∷ 0x82 ∷ []) (name_bytes name ++ []) (encoded_all style.width style.short body) (name_bytes name ++ encoded_all style.width style.short body) (ap (λ bs. bs ++ encoded_all style.width style.short body) (append-nil (name_bytes name)))
-  form_is here (Op.Declaration Declaration.ThermalZone) (tree (Use at name) no_trees) body list h w = packed_is (0x5B ∷ 0x85 ∷ []) (name_bytes name ++ []) (encoded_all style.width style.short body) (name_bytes name ++ encoded_all style.width style.short body) (ap (λ bs. bs ++ encoded_all style.width style.short body) (append-nil (name_bytes name)))
-  form_is here (Op.Declaration Declaration.PowerResource) (tree (Use at name) (tree (Integer level) (tree (Integer order) no_trees))) body list h w =
-      packed_is (0x5B ∷ 0x84 ∷ []) (name_bytes name ++ (little_bytes 1 level ++ (little_bytes 2 order ++ []))) (encoded_all style.width style.short body)
-      (name_bytes name ++ ((little_bytes 1 level ++ (little_bytes 2 order ++ [])) ++ encoded_all style.width style.short body)) (append_assoc (name_bytes name) (little_bytes 1 level ++ (little_bytes 2 order ++ [])) (encoded_all style.width style.short body))
-  form_is here (Op.Declaration Declaration.Processor) (tree (Use at name) (tree (Integer number) (tree (Integer address) (tree (Integer size) no_trees)))) body list h w =
-      packed_is (0x5B ∷ 0x83 ∷ []) (name_bytes name ++ (little_bytes 1 number ++ (little_bytes 4 address ++ (little_bytes 1 size ++ [])))) (encoded_all style.width style.short body)
-      (name_bytes name ++ ((little_bytes 1 number ++ (little_bytes 4 address ++ (little_bytes 1 size ++ []))) ++ encoded_all style.width style.short body)) (append_assoc (name_bytes name) (little_bytes 1 number ++ (little_bytes 4 address ++ (little_bytes 1 size ++ []))) (encoded_all style.width style.short body))
-  form_is here (Op.Declaration Declaration.Scope) (tree (Use at name) no_trees) body list h w = packed_is (0x10 ∷ []) (name_bytes name ++ []) (encoded_all style.width style.short body) (name_bytes name ++ encoded_all style.width style.short body) (ap (λ bs. bs ++ encoded_all style.width style.short body) (append-nil (name_bytes name)))
+  form_is here (Op.Declaration Declaration.Device) (tree (Use at name) no_trees) body list h w = absurd h
+  form_is here (Op.Declaration Declaration.ThermalZone) (tree (Use at name) no_trees) body list h w = absurd h
+  form_is here (Op.Declaration Declaration.PowerResource) (tree (Use at name) (tree (Integer level) (tree (Integer order) no_trees))) body list h w = absurd h
+  form_is here (Op.Declaration Declaration.Processor) (tree (Use at name) (tree (Integer number) (tree (Integer address) (tree (Integer size) no_trees)))) body list h w = absurd h
+  form_is here (Op.Declaration Declaration.Scope) (tree (Use at name) no_trees) body list h w = absurd h
   form_is here (Op.Declaration Declaration.OperationRegion) (tree (Use at name) (tree (Integer space) (tree offset (tree size no_trees)))) no_trees list h w = append-nil _
   form_is here (Op.Declaration Declaration.Field) (tree (Use from region) (tree (Integer flags) no_trees)) body list h w =
       by_items (items_in body) (λ items. Field here from region flags items) list _ h w (λ items h w.
@@ -268,7 +264,7 @@ module _ (style : IntegerStyle) where
   form_is here (Op.Declaration Declaration.CreateDWordField) (tree source (tree index (tree (Use at name) no_trees))) no_trees list h w = plain_is (0x8A ∷ []) _ _ (two_and (encoded style.width style.short source) (encoded style.width style.short index) (name_bytes name))
   form_is here (Op.Declaration Declaration.CreateQWordField) (tree source (tree index (tree (Use at name) no_trees))) no_trees list h w = plain_is (0x8F ∷ []) _ _ (two_and (encoded style.width style.short source) (encoded style.width style.short index) (name_bytes name))
   form_is here (Op.Control Control.Return) (tree value no_trees) no_trees list h w = plain_is (0xA4 ∷ []) _ _ (append-nil (encoded style.width style.short value))
-  form_is here (Op.Control Control.If) (tree test no_trees) body list h w = packed_is (0xA0 ∷ []) (encoded style.width style.short test ++ []) (encoded_all style.width style.short body) (encoded style.width style.short test ++ encoded_all style.width style.short body) (ap (λ bs. bs ++ encoded_all style.width style.short body) (append-nil (encoded style.width style.short test)))
+  form_is here (Op.Control Control.If) (tree test no_trees) body list h w = absurd h
   form_is here (Op.Control Control.ElseIf) (tree test no_trees) body list h w = absurd h
   form_is here (Op.Control Control.For) (tree start (tree test (tree step no_trees))) body list h w = absurd h
   form_is here (Op.Control Control.Printf) (tree (String format) args) no_trees list h w = absurd h
@@ -276,8 +272,8 @@ module _ (style : IntegerStyle) where
   form_is here (Op.Control Control.Switch) (tree value no_trees) cases list h w = absurd h
   form_is here (Op.Control Control.Case) (tree value no_trees) body list h w = absurd h
   form_is here (Op.Control Control.Default) no_trees body list h w = absurd h
-  form_is here (Op.Control Control.Else) no_trees body list h w = packed_is (0xA1 ∷ []) [] (encoded_all style.width style.short body) (encoded_all style.width style.short body) refl
-  form_is here (Op.Control Control.While) (tree test no_trees) body list h w = packed_is (0xA2 ∷ []) (encoded style.width style.short test ++ []) (encoded_all style.width style.short body) (encoded style.width style.short test ++ encoded_all style.width style.short body) (ap (λ bs. bs ++ encoded_all style.width style.short body) (append-nil (encoded style.width style.short test)))
+  form_is here (Op.Control Control.Else) no_trees body list h w = absurd h
+  form_is here (Op.Control Control.While) (tree test no_trees) body list h w = absurd h
   form_is here (Op.Control Control.Break) no_trees no_trees list h w = refl
   form_is here (Op.Control Control.Continue) no_trees no_trees list h w = refl
   form_is here (Op.Literal literal) no_trees no_trees list h w = append-nil _ ∙ append-nil _

@@ -7,8 +7,11 @@ pub mod Rows
 pub mod Weights
 pub mod PlainForms
 pub mod Joined
+pub mod TermLists
 pub mod NodePieces
 pub mod Rooms
-pub mod ElseIfs
 pub mod NotedLengths
+pub mod ListLengths
+pub mod Holds
+pub mod Runs
 pub mod Encodings

@@ -5,15 +5,12 @@ use Rattle.std.proofs.lemmas.List.{take_more, length-take-le}
 use Rattle.acpi_values.specs.Operators.{Letter}
 use Rattle.asl_tree.specs.declared.path.Path.{Path}
 use Rattle.asl_tree.specs.declared.term.Op.{Op}
-use Rattle.asl_tree.specs.declared.term.Declaration.TheVariants as Declaration
-use Rattle.asl_tree.specs.declared.term.Control.TheVariants as Control
 use Rattle.asl_tree.specs.declared.term.Node.{Node}
 use Rattle.asl_tree.specs.declared.term.NamedDescriptor.{NamedDescriptor}
 use Rattle.asl_tree.specs.declared.term.Term.{Term}
 use Rattle.asl_tree.specs.declared.term.Term as D
 use Rattle.aml_code.specs.Encoding.{package_length_bytes}
 use Rattle.aml_sizes.specs.declared.style.IntegerStyle.{IntegerStyle}
-use Rattle.term_places.specs.Places.{holds_terms}
 use Rattle.aml_sizes.specs.Sizes.{most_content_bytes}
 use Rattle.aml_sizes.specs.Capped.{capped}
 use Rattle.aml_sizes.specs.Leaves.{Leaf, leaves_of, first_letter, letters_behind, letter_number, is_first_left_out, stated_count}
@@ -21,7 +18,7 @@ use Rattle.aml_sizes.specs.Codes.{letters_of}
 use Rattle.aml_sizes.specs.Items.{written_items}
 use Rattle.aml_sizes.specs.TermBytes.{is_package, buffer_size, count_bytes, body_part, row_bytes, nodes_bytes}
 use Rattle.aml_sizes.specs.Forms.{form_lengths}
-use Rattle.aml_sizes.specs.PackageLengths.{package_length, entry_lengths, items_lengths, operand_lengths, count_lengths, body_lengths, front_lengths, term_lengths, row_lengths, nodes_lengths, container_lengths, Noted}
+use Rattle.aml_sizes.specs.PackageLengths.{package_length, entry_lengths, items_lengths, operand_lengths, count_lengths, body_lengths, front_lengths, term_lengths, row_lengths, nodes_lengths, Noted}
 use Rattle.aml_sizes.proofs.Letters.{next_letter}
 use Rattle.aml_sizes.proofs.Rows.{args_row, body_row, nodes_in, leaf_number, rows}
 use Rattle.aml_sizes.proofs.Counted.{capped_whole}
@@ -113,7 +110,7 @@ content_is : (own size own' whole content : ℕ) → own ≡ capped own' → siz
 content_is own size own' whole content eo es e = omega (arith, eo, es, e)
 
 module _ (style : IntegerStyle) where
-  row_is : (letters : List Letter) (m : _) (row : D.Row_of-Node m) → row_lengths style letters row ≡ nodes_lengths style letters (D.items-the_row-Node m row)
+  pub row_is : (letters : List Letter) (m : _) (row : D.Row_of-Node m) → row_lengths style letters row ≡ nodes_lengths style letters (D.items-the_row-Node m row)
   unfolding term_lengths nodes_lengths
   row_is letters m D.end_of-Node = refl
   row_is letters m (D.more_of-Node id place term rest) = ap (λ ls. operand_lengths (first_letter letters) (term_lengths style term) ++ ls) (row_is (letters_behind letters) _ rest)
@@ -132,10 +129,6 @@ module _ (style : IntegerStyle) where
       let count : length (take i ns) ≡ i = length-take-le i ns (omega arith) in
       ap (λ n. nodes_lengths style letters (take n ns)) (sym e) ∙ ap (nodes_lengths style letters) (take_more ns i d lt) ∙ nodes_append letters (take i ns) (get_or ns i d)
       ∙ ap (λ n. nodes_lengths style letters (take i ns) ++ operand_lengths (letter_number letters n) (term_lengths style (get_or ns i d).term)) count
-
-  -- the same of terms
-  pub terms_more : (ns : List Node) (i left : ℕ) (d : Node) → i + 1 ≡ left → i < length ns → d ≡ get_or ns i d → nodes_lengths style [] (take left ns) ≡ nodes_lengths style [] (take i ns) ++ term_lengths style d.term
-  terms_more ns i left d e lt here = nodes_more [] ns i left d e lt ∙ ap (λ (n : Node). nodes_lengths style [] (take i ns) ++ term_lengths style n.term) (sym here)
 
   pub no_nodes : (letters : List Letter) (ns : List Node) (left : ℕ) → left ≤ 0 → nodes_lengths style letters (take left ns) ≡ []
   unfolding nodes_lengths
@@ -228,36 +221,6 @@ module _ (style : IntegerStyle) where
       let here = λ (c : Option ℕ). package_length (length (count_bytes style c bytes) + whole) ∷ count_lengths c lengths in
       noted_as (here count) (here (stated_count args elements)) before now (ap here (sym ec))
       (noted_both (package_length (length (count_bytes style count bytes) + whole) ∷ []) (count_lengths count lengths) before between now inside (front (length (count_bytes style count bytes) + whole) (omega (arith, eo, es))))
-
-  -- a form whose body is a list of terms, whose body and then whose arguments and own length were noted
-  pub container_noted : (op : Op) (args body : List Node) (size : ℕ) (before between now now' : Option (List ℕ)) → size ≡ length (nodes_bytes style [] body) → size ≤ most_content_bytes → Noted (nodes_lengths style [] body) before between
-      → ((whole : ℕ) → size ≡ capped whole → Noted ((if is_package op then package_length (length (nodes_bytes style (letters_of op) args) + whole) ∷ [] else []) ++ nodes_lengths style (letters_of op) args) between now) → now' ≡ now → Noted (container_lengths style op args body) before now'
-  container_noted op args body size before between now now' es le inside front same =
-      let whole = length (nodes_bytes style [] body) in
-      let own = if is_package op then package_length (length (nodes_bytes style (letters_of op) args) + whole) ∷ [] else [] in
-      let exact : size ≡ capped whole = omega (arith, es, le) in
-      subst (λ n. Noted (container_lengths style op args body) before n) (sym same)
-      (noted_as ((own ++ nodes_lengths style (letters_of op) args) ++ nodes_lengths style [] body) (container_lengths style op args body) before now (sym (append_assoc own (nodes_lengths style (letters_of op) args) (nodes_lengths style [] body)))
-      (noted_both (own ++ nodes_lengths style (letters_of op) args) (nodes_lengths style [] body) before between now inside (front whole exact)))
-
-  container_form : (op : Op) (args body : List Leaf) (front own : List ℕ) (nodes : ℕ) (content items inside item_lengths : List ℕ) → holds_terms op ≡ true
-      → ((if is_package op then package_length (length front + length content) ∷ [] else []) ++ (own ++ inside)) ≡ front_lengths style op args front own nodes (length (body_part style op body content items)) ++ body_lengths op inside item_lengths
-  container_form (Op.Declaration Declaration.Method) args body front own nodes content items inside item_lengths h = refl
-  container_form (Op.Declaration Declaration.Device) args body front own nodes content items inside item_lengths h = refl
-  container_form (Op.Declaration Declaration.ThermalZone) args body front own nodes content items inside item_lengths h = refl
-  container_form (Op.Declaration Declaration.PowerResource) args body front own nodes content items inside item_lengths h = refl
-  container_form (Op.Declaration Declaration.Processor) args body front own nodes content items inside item_lengths h = refl
-  container_form (Op.Declaration Declaration.Scope) args body front own nodes content items inside item_lengths h = refl
-  container_form (Op.Control Control.If) args body front own nodes content items inside item_lengths h = refl
-  container_form (Op.Control Control.Else) args body front own nodes content items inside item_lengths h = refl
-  container_form (Op.Control Control.While) args body front own nodes content items inside item_lengths h = refl
-  container_form _ args body front own nodes content items inside item_lengths h = absurd (grind arith)
-
-  pub container_lengths_are : (op : Op) (args body : Vec Node Global) (term : Term) (arg_nodes body_nodes : List Node) → term ≡ D.Form op args body → arg_nodes ≡ args.items → body_nodes ≡ body.items → holds_terms op ≡ true → container_lengths style op arg_nodes body_nodes ≡ term_lengths style term
-  container_lengths_are op args body term arg_nodes body_nodes et ea eb h =
-      ap (λ ns. container_lengths style op ns body_nodes) ea ∙ ap (container_lengths style op args.items) eb
-      ∙ container_form op (leaves_of args.items) (leaves_of body.items) (nodes_bytes style (letters_of op) args.items) (nodes_lengths style (letters_of op) args.items) (length (leaves_of body.items)) (nodes_bytes style [] body.items) (written_items 0 body.items) (nodes_lengths style [] body.items) (items_lengths body.items) h
-      ∙ sym (form_is op args body) ∙ ap (term_lengths style) (sym et)
 
 -- all that is noted where nothing was
 pub all_noted : (lengths now : List ℕ) (notes : Option (List ℕ)) → Noted lengths (Some []) notes → notes ≡ Some now → now ≡ lengths

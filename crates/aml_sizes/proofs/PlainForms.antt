@@ -31,6 +31,7 @@ plainly style (Op.Declaration Declaration.Field) e = absurd (false≢true e)
 plainly style (Op.Declaration Declaration.IndexField) e = absurd (false≢true e)
 plainly style (Op.Declaration Declaration.BankField) e = absurd (false≢true e)
 plainly style (Op.Control Control.If) e = absurd (false≢true e)
+plainly style (Op.Control Control.ElseIf) e = absurd (false≢true e)
 plainly style (Op.Control Control.Else) e = absurd (false≢true e)
 plainly style (Op.Control Control.While) e = absurd (false≢true e)
 plainly style op e = record {

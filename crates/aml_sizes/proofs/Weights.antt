@@ -50,11 +50,3 @@ unfolding nodes_weight
 node_weight [] i d lt = absurd (omega (arith, lt))
 node_weight (n ∷ ns) zero d lt = omega arith
 node_weight (n ∷ ns) (suc i) d lt = omega (arith, node_weight ns i d (omega (arith, lt)))
-
--- what is inside the first of some nodes, and what is behind it
-pub opened_weight : (ns : List Node) (first : Node) (rest : List Node) (op : Op) (args body : Vec Node Global) (ys : List Node) → ns ≡ first ∷ rest → first.term ≡ D.Form op args body → ys ≡ body.items → nodes_weight ys + nodes_weight rest < nodes_weight ns
-unfolding nodes_weight
-opened_weight ns first rest op args body ys e et eb =
-    let whole : nodes_weight ns ≡ suc (term_weight first.term + nodes_weight rest) = ap nodes_weight e in
-    let inside = form_weight first.term op args body args.items ys et refl eb in
-    omega (arith, whole, inside)

@@ -54,7 +54,8 @@ special_code Special.CondRefOf = code_bytes CondRefOfCode
 special_code Special.Buffer = code_bytes BufferCode
 special_code Special.Package = code_bytes PackageCode
 
--- an ElseIf, a For, a Switch with its Cases, what prints and what is written with a symbol stand in no tree that is written
+-- an ElseIf has the opcodes of an Else and an If; a For, a Switch with its Cases, what prints and what is written with
+-- a symbol stand in no tree that is written
 abbrev pub control_code : Control → List ℕ
 control_code Control.Return = code_bytes ReturnCode
 control_code Control.If = code_bytes IfCode

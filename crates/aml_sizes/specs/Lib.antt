@@ -4,6 +4,7 @@ pub mod Leaves
 pub mod Codes
 pub mod Items
 pub mod TermBytes
+pub mod TermLists
 pub mod Capped
 pub mod Spaces
 pub mod PackageLengths

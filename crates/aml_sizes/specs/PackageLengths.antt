@@ -5,6 +5,7 @@ use Rattle.acpi_values.specs.Operators.{Letter}
 use Rattle.acpi_values.specs.Operators as L
 use Rattle.asl_tree.specs.declared.term.Op.{Op}
 use Rattle.asl_tree.specs.declared.term.Declaration.TheVariants as Declaration
+use Rattle.asl_tree.specs.declared.term.Control.TheVariants as Control
 use Rattle.asl_tree.specs.declared.term.Special.TheVariants as Special
 use Rattle.asl_tree.specs.declared.term.Node.{Node}
 use Rattle.asl_tree.specs.declared.term.Term.{Term}
@@ -14,7 +15,9 @@ use Rattle.aml_sizes.specs.declared.style.IntegerStyle.{IntegerStyle}
 use Rattle.aml_sizes.specs.Leaves.{Leaf, leaves_of, first_letter, letters_behind, is_first_left_out, stated_count}
 use Rattle.aml_sizes.specs.Codes.{letters_of}
 use Rattle.aml_sizes.specs.Items.{written_items}
-use Rattle.aml_sizes.specs.TermBytes.{is_package, buffer_size, count_bytes, body_part, row_bytes, nodes_bytes}
+use Rattle.term_places.specs.Places.{holds_terms}
+use Rattle.aml_sizes.specs.TermBytes.{is_package, head_bytes, buffer_size, count_bytes, body_part, row_bytes, nodes_bytes}
+use Rattle.aml_sizes.specs.TermLists.{row_terms, row_later, terms_bytes, later_of}
 
 -- a package of so many bytes after its length counts its length's bytes, too
 abbrev pub package_length : ℕ → ℕ
@@ -87,12 +90,38 @@ module _ (style : IntegerStyle) where
   nodes_lengths letters (node ∷ nodes) = operand_lengths (first_letter letters) (term_lengths node.term)
       ++ nodes_lengths (letters_behind letters) nodes
 
--- of a form whose body is a list of terms
-abbrev pub container_lengths : IntegerStyle → Op → List Node → List Node → List ℕ
-container_lengths style op args body =
-    (if is_package op then package_length (length (nodes_bytes style (letters_of op) args) + length (nodes_bytes style [] body)) ∷ [] else
-    [])
-    ++ (nodes_lengths style (letters_of op) args ++ nodes_lengths style [] body)
+-- of a form that is a package up to its terms, which have so many bytes, before so many of its run: an ElseIf is two, the
+-- Else and the If that begins it
+abbrev pub head_lengths : Op → List ℕ → ℕ → ℕ → List ℕ
+head_lengths (Op.Control Control.ElseIf) front size later =
+    package_length (length (head_bytes (Op.Control Control.If) front size) + size + later) ∷ package_length (length front + size) ∷ []
+head_lengths op front size later = if is_package op then package_length (length front + size) ∷ [] else []
+
+module _ (style : IntegerStyle) where
+  unfoldable mutual
+    -- of a term before so many bytes of its run
+    pub own_lengths : ℕ → Term → List ℕ
+    own_lengths later (D.Form' op shape args shape' body) =
+        if holds_terms op
+        then head_lengths op (row_bytes style (letters_of op) args) (length (row_terms style body)) later
+        ++ (row_lengths style (letters_of op) args ++ row_terms_lengths body)
+        else term_lengths style (D.Form' op shape args shape' body)
+    own_lengths later term = term_lengths style term
+
+    pub row_terms_lengths : {m : _} → D.Row_of-Node m → List ℕ
+    row_terms_lengths D.end_of-Node = []
+    row_terms_lengths (D.more_of-Node id place term rest) = own_lengths (row_later style rest) term ++ row_terms_lengths rest
+
+  -- of a list of terms
+  unfoldable pub terms_lengths : List Node → List ℕ
+  terms_lengths [] = []
+  terms_lengths (node ∷ nodes) = own_lengths (later_of style nodes) node.term ++ terms_lengths nodes
+
+  -- of a form whose body is a list of terms
+  abbrev pub container_lengths : Op → List Node → List Node → ℕ → List ℕ
+  container_lengths op args body later =
+      head_lengths op (nodes_bytes style (letters_of op) args) (length (terms_bytes style body)) later
+      ++ (nodes_lengths style (letters_of op) args ++ terms_lengths body)
 
 -- lengths that were noted from the last to the first, if any were
 abbrev pub in_order : Option (Vec ℕ Global) → Option (List ℕ)

@@ -6,8 +6,8 @@ use Rattle.asl_tree.specs.declared.program.Block.{Block}
 use Rattle.aml_sizes.specs.declared.reserve.Room.{Room}
 use Rattle.aml_sizes.specs.Sizes.{most_content_bytes}
 use Rattle.aml_sizes.specs.Styles.{style_of}
-use Rattle.aml_sizes.specs.TermBytes.{nodes_bytes}
-use Rattle.aml_sizes.specs.PackageLengths.{nodes_lengths}
+use Rattle.aml_sizes.specs.TermLists.{terms_bytes}
+use Rattle.aml_sizes.specs.PackageLengths.{terms_lengths}
 use Rattle.aml_sizes.specs.Pieces.{table_pieces}
 
 -- a piece without its bytes
@@ -29,5 +29,5 @@ sizes pieces = map size_of (reverse pieces)
 pub record IsRoomOf (lines : List Line) (block : Block) (short : Bool) (room : Room) : Type 0 where
   pub pieces : room.pieces ≡ map blank (table_pieces (style_of block short) lines block)
   pub spaces : room.spaces ≡ map size_of (table_pieces (style_of block short) lines block)
-  pub lengths : room.lengths ≡ nodes_lengths (style_of block short) [] block.terms.items
-  pub within : length (nodes_bytes (style_of block short) [] block.terms.items) ≤ most_content_bytes
+  pub lengths : room.lengths ≡ terms_lengths (style_of block short) block.terms.items
+  pub within : length (terms_bytes (style_of block short) block.terms.items) ≤ most_content_bytes

@@ -8,7 +8,7 @@ use Rattle.asl_tree.specs.Names.{Known}
 use Rattle.aml_sessions.specs.Ready.{IsReadyBlock}
 use Rattle.aml_meaning.specs.Encoded.{encoded_block}
 use Rattle.aml_sizes.specs.Styles.{style_of}
-use Rattle.aml_sizes.specs.TermBytes.{nodes_bytes}
+use Rattle.aml_sizes.specs.TermLists.{terms_bytes}
 use Rattle.aml_sizes.specs.Pieces.{joined_pieces, table_pieces}
 use Rattle.iasl_messages.specs.declared.place.Place.{Place}
 use Rattle.iasl_messages.specs.declared.place.Line.{Line}
@@ -28,17 +28,17 @@ AtBlock core number P = ForSome (slice_get core.program.blocks number) P
 pub record IsTableSize (block : Block) (short : Bool) (size : ℕ) : Type 0 where
   pub joined : (lines : List Line) → size ≡ length (joined_pieces (table_pieces (style_of block short) lines block))
   pub encoded : (known : Known) → IsReadyBlock known block → size ≡ length (encoded_block short block)
-  pub content : size ≡ 36 + length (nodes_bytes (style_of block short) [] block.terms.items)
+  pub content : size ≡ 36 + length (terms_bytes (style_of block short) block.terms.items)
   pub within : size ≤ most_table_bytes
 
 -- the place of a block whose table is too long
 pub record IsOver (block : Block) (short : Bool) (place : Place) : Type 0 where
-  pub passes : most_table_bytes < 36 + length (nodes_bytes (style_of block short) [] block.terms.items)
+  pub passes : most_table_bytes < 36 + length (terms_bytes (style_of block short) block.terms.items)
   pub at_block : place ≡ block.place
 
 -- the one message that a table which is too long gets, at its block
 pub record IsTooLong (block : Block) (short : Bool) (message : Message) : Type 0 where
-  pub passes : most_table_bytes < 36 + length (nodes_bytes (style_of block short) [] block.terms.items)
+  pub passes : most_table_bytes < 36 + length (terms_bytes (style_of block short) block.terms.items)
   pub number : message.number ≡ 6080
   pub place : message.place ≡ block.place
   pub no_name : message.name ≡ []

@@ -28,6 +28,7 @@ is_package (Op.Declaration Declaration.PowerResource) = true
 is_package (Op.Declaration Declaration.Processor) = true
 is_package (Op.Declaration Declaration.Scope) = true
 is_package (Op.Control Control.If) = true
+is_package (Op.Control Control.ElseIf) = true
 is_package (Op.Control Control.Else) = true
 is_package (Op.Control Control.While) = true
 is_package (Op.Declaration Declaration.Field) = true

@@ -158,7 +158,7 @@ pub fn holds_terms(op: Op) -> bool
                 | Declaration::PowerResource
                 | Declaration::Processor
                 | Declaration::Scope
-        ) | Op::Control(Control::If | Control::Else | Control::While)
+        ) | Op::Control(Control::If | Control::ElseIf | Control::Else | Control::While)
     )
 }
 

@@ -1,6 +1,6 @@
 //! The pieces of a table before they have their bytes, from the last piece to the first, so that the length of a
 //! package's content is known before its head.
-ghost use Rattle.std.specs.Prelude.{◌≡◌, ◌≤◌, ◌<◌, ◌++◌, ◌+◌, ◌∷◌, [], Some, OnOk, IsErrOf, IfOk, ℕ, List};
+ghost use Rattle.std.specs.Prelude.{◌≡◌, ◌≤◌, ◌<◌, ◌++◌, ◌+◌, ◌∷◌, [], Some, OnOk, IsErrOf, IfOk};
 ghost use Rattle.aml_sizes.specs.Sizes.{most_content_bytes};
 ghost use Rattle.aml_sizes.specs.Pieces.{piece_at};
 
@@ -107,42 +107,5 @@ impl Draft {
         }
         self.size += count;
         Ok(())
-    }
-
-    /// More room in the first of the pieces that are there, for so many bytes before its own. They are counted
-    /// exactly unless they are too many.
-    pub fn widen(&mut self, alloc: Global, count: usize) -> Result<(), DraftStop>
-        ensures pieces { self.new.pieces.items ≡ self.old.pieces.items }
-        ensures spaces { (front : List ℕ) (last : ℕ) → self.old.spaces.items ≡ front ++ last ∷ [] →
-            OnOk result (self.new.spaces.items ≡ front ++ (last + count) ∷ []) }
-        ensures size { OnOk result (self.new.size ≡ self.old.size + count) }
-        ensures notes { self.new.notes ≡ self.old.notes }
-        ensures few { OnOk result (count ≤ most_content_bytes) }
-        ensures too_long { IsErrOf result DraftStop.TooLong → most_content_bytes < self.old.size + count }
-    {
-        if count > MOST_CONTENT_BYTES - self.size {
-            return Err(DraftStop::TooLong);
-        }
-        if widen_last(alloc, &mut self.spaces, count).is_err() {
-            return Err(DraftStop::Memory);
-        }
-        self.size += count;
-        Ok(())
-    }
-}
-
-// The last of some rooms gets larger.
-fn widen_last(alloc: Global, spaces: &mut Vec<Space>, count: usize) -> Result<(), AllocError>
-    requires { count ≤ most_content_bytes }
-    ensures { (front : List ℕ) (last : ℕ) → spaces.old.items ≡ front ++ last ∷ [] →
-        OnOk result (spaces.new.items ≡ front ++ (last + count) ∷ []) }
-{
-    match spaces.pop() {
-        Some(space) => {
-            let wider = space.widened(alloc, count)?;
-            spaces.push(wider)?;
-            Ok(())
-        }
-        None => Ok(()),
     }
 }

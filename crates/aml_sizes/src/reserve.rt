@@ -1,18 +1,18 @@
 //! The room of a table, before its bytes are put in.
-ghost use Rattle.std.specs.Prelude.{false, ◌≡◌, ◌<◌, ◌++◌, ◌+◌, [], length, Some, OnOk, IsErrOf, IfOk, IfErr};
+ghost use Rattle.std.specs.Prelude.{false, ◌≡◌, ◌<◌, ◌++◌, ◌+◌, [], length, Some, OnOk, IsErrOf, IfOk, IfErr, ℕ};
 ghost use Rattle.aml_sizes.specs.Sizes.{most_content_bytes};
 ghost use Rattle.aml_sizes.specs.Styles.{style_of as style_for};
-ghost use Rattle.aml_sizes.specs.TermBytes.{term_bytes, nodes_bytes};
-ghost use Rattle.aml_sizes.specs.PackageLengths.{term_lengths, nodes_lengths, container_lengths, Noted};
-ghost use Rattle.aml_sizes.specs.Pieces.{is_container, container_bytes, container_pieces, term_pieces, nodes_pieces};
+ghost use Rattle.aml_sizes.specs.TermLists.{own_bytes, terms_bytes, container_bytes};
+ghost use Rattle.aml_sizes.specs.PackageLengths.{own_lengths, terms_lengths, container_lengths, Noted};
+ghost use Rattle.aml_sizes.specs.Pieces.{is_container, container_pieces, term_pieces, nodes_pieces};
 ghost use Rattle.aml_sizes.specs.Rooms.{blanks, sizes, IsRoomOf};
 ghost use Rattle.aml_sizes.specs.TableSizes.{AtBlock, RefusedFor};
 
 use crate::codes::holds_terms;
 use crate::draft::{Draft, DraftStop, blank};
-use crate::else_if::is_else_if;
+use crate::else_if::{own_size, run_from};
 use crate::length::Lengths;
-use crate::sizes::{headed_size, term_size};
+use crate::sizes::term_size;
 use crate::space::{HEADER_BYTES, Space, Spaces};
 use crate::stop::{WriteStop, too_long};
 use crate::style::{IntegerStyle, style_of};
@@ -33,7 +33,7 @@ pub struct Room {
     pub spaces: Spaces,
 }
 
-// A term that holds no list of terms.
+// A term that holds no list of terms, whatever stands behind it.
 fn reserve_whole(
     alloc: Global,
     draft: &mut Draft,
@@ -43,18 +43,21 @@ fn reserve_whole(
     style: IntegerStyle,
 ) -> Result<(), DraftStop>
     requires { is_container term.now ≡ false }
-    ensures pieces { OnOk result (draft.new.pieces.items ≡ draft.old.pieces.items ++ blanks (term_pieces style lines.now place term.now)) }
-    ensures spaces { OnOk result (draft.new.spaces.items ≡ draft.old.spaces.items ++ sizes (term_pieces style lines.now place term.now)) }
-    ensures size { OnOk result (draft.new.size ≡ draft.old.size + length (term_bytes style term.now)) }
-    ensures lengths { OnOk result (Noted (term_lengths style term.now) draft.old.notes draft.new.notes) }
-    ensures too_long { IsErrOf result DraftStop.TooLong → most_content_bytes < draft.old.size + length (term_bytes style term.now) }
+    ensures pieces { (later : ℕ) → OnOk result
+        (draft.new.pieces.items ≡ draft.old.pieces.items ++ blanks (term_pieces style lines.now later place term.now)) }
+    ensures spaces { (later : ℕ) → OnOk result
+        (draft.new.spaces.items ≡ draft.old.spaces.items ++ sizes (term_pieces style lines.now later place term.now)) }
+    ensures size { (later : ℕ) → OnOk result (draft.new.size ≡ draft.old.size + length (own_bytes style later term.now)) }
+    ensures lengths { (later : ℕ) → OnOk result (Noted (own_lengths style later term.now) draft.old.notes draft.new.notes) }
+    ensures too_long { (later : ℕ) → IsErrOf result DraftStop.TooLong →
+        most_content_bytes < draft.old.size + length (own_bytes style later term.now) }
 {
     let size = term_size(&mut draft.notes, term, style);
     draft.push(alloc, lines, place, size)
 }
 
-// A form whose body is a list of terms: those of its body, and then its own bytes before the body, which are in the
-// piece of the If that begins it where it is what an ElseIf has become.
+// A form whose body is a list of terms, before so many bytes of its run: those of its body, and then its own bytes
+// before the body.
 #[cycle(reserve)]
 fn reserve_container(
     alloc: Global,
@@ -64,49 +67,50 @@ fn reserve_container(
     op: Op,
     body: &[Node],
     args: &[Node],
+    later: usize,
     style: IntegerStyle,
 ) -> Result<(), DraftStop>
     ensures pieces { OnOk result
-        (draft.new.pieces.items ≡ draft.old.pieces.items ++ blanks (container_pieces style lines.now place op args.now body.now)) }
+        (draft.new.pieces.items ≡ draft.old.pieces.items ++ blanks (container_pieces style lines.now place op args.now body.now later)) }
     ensures spaces { OnOk result
-        (draft.new.spaces.items ≡ draft.old.spaces.items ++ sizes (container_pieces style lines.now place op args.now body.now)) }
-    ensures size { OnOk result (draft.new.size ≡ draft.old.size + length (container_bytes style lines.now op args.now body.now)) }
-    ensures lengths { OnOk result (Noted (container_lengths style op args.now body.now) draft.old.notes draft.new.notes) }
+        (draft.new.spaces.items ≡ draft.old.spaces.items ++ sizes (container_pieces style lines.now place op args.now body.now later)) }
+    ensures size { OnOk result (draft.new.size ≡ draft.old.size + length (container_bytes style op args.now body.now later)) }
+    ensures lengths { OnOk result (Noted (container_lengths style op args.now body.now later) draft.old.notes draft.new.notes) }
     ensures too_long { IsErrOf result DraftStop.TooLong → most_content_bytes < draft.old.size + length
-        (container_bytes style lines.now op args.now body.now) }
+        (container_bytes style op args.now body.now later) }
 {
     let before = draft.size;
     reserve_terms(alloc, draft, lines, body, style)?;
     let size = draft.size - before;
-    let whole = headed_size(&mut draft.notes, op, args, size, style);
-    if is_else_if(place, op, body) {
-        draft.widen(alloc, whole - size)
-    } else {
-        draft.push(alloc, lines, place, whole - size)
-    }
+    let whole = own_size(&mut draft.notes, op, args, size, later, style);
+    draft.push(alloc, lines, place, whole - size)
 }
 
-// The room of a term's pieces, of which that of its own bytes comes last.
+// The room of a term's pieces, of which that of its own bytes comes last, before so many bytes of its run.
 #[cycle(reserve)]
 fn reserve_term(
     alloc: Global,
     draft: &mut Draft,
     lines: &SourceLines<'_>,
     node: &Node,
+    later: usize,
     style: IntegerStyle,
 ) -> Result<(), DraftStop>
     ensures pieces { OnOk result
-        (draft.new.pieces.items ≡ draft.old.pieces.items ++ blanks (term_pieces style lines.now node.now.place node.now.term)) }
+        (draft.new.pieces.items ≡ draft.old.pieces.items ++ blanks (term_pieces style lines.now later node.now.place node.now.term)) }
     ensures spaces { OnOk result
-        (draft.new.spaces.items ≡ draft.old.spaces.items ++ sizes (term_pieces style lines.now node.now.place node.now.term)) }
-    ensures size { OnOk result (draft.new.size ≡ draft.old.size + length (term_bytes style node.now.term)) }
-    ensures lengths { OnOk result (Noted (term_lengths style node.now.term) draft.old.notes draft.new.notes) }
-    ensures too_long { IsErrOf result DraftStop.TooLong → most_content_bytes < draft.old.size + length (term_bytes style node.now.term) }
+        (draft.new.spaces.items ≡ draft.old.spaces.items ++ sizes (term_pieces style lines.now later node.now.place node.now.term)) }
+    ensures size { OnOk result (draft.new.size ≡ draft.old.size + length (own_bytes style later node.now.term)) }
+    ensures lengths { OnOk result (Noted (own_lengths style later node.now.term) draft.old.notes draft.new.notes) }
+    ensures too_long { IsErrOf result DraftStop.TooLong →
+        most_content_bytes < draft.old.size + length (own_bytes style later node.now.term) }
 {
     match &node.term {
         Term::Form { op, args, body } => {
             if holds_terms(*op) {
-                reserve_container(alloc, draft, lines, node.place, *op, body, args, style)
+                reserve_container(
+                    alloc, draft, lines, node.place, *op, body, args, later, style,
+                )
             } else {
                 reserve_whole(alloc, draft, lines, node.place, &node.term, style)
             }
@@ -126,19 +130,23 @@ fn reserve_terms(
 ) -> Result<(), DraftStop>
     ensures pieces { OnOk result (draft.new.pieces.items ≡ draft.old.pieces.items ++ blanks (nodes_pieces style lines.now nodes.now)) }
     ensures spaces { OnOk result (draft.new.spaces.items ≡ draft.old.spaces.items ++ sizes (nodes_pieces style lines.now nodes.now)) }
-    ensures size { OnOk result (draft.new.size ≡ draft.old.size + length (nodes_bytes style [] nodes.now)) }
-    ensures lengths { OnOk result (Noted (nodes_lengths style [] nodes.now) draft.old.notes draft.new.notes) }
-    ensures too_long { IsErrOf result DraftStop.TooLong → most_content_bytes < draft.old.size + length (nodes_bytes style [] nodes.now) }
+    ensures size { OnOk result (draft.new.size ≡ draft.old.size + length (terms_bytes style nodes.now)) }
+    ensures lengths { OnOk result (Noted (terms_lengths style nodes.now) draft.old.notes draft.new.notes) }
+    ensures too_long { IsErrOf result DraftStop.TooLong → most_content_bytes < draft.old.size + length (terms_bytes style nodes.now) }
 {
     let mut left = nodes.len();
+    let mut later: usize = 0;
     while left > 0 {
         left -= 1;
-        reserve_term(alloc, draft, lines, &nodes[left], style)?;
+        let node = &nodes[left];
+        let before = draft.size;
+        reserve_term(alloc, draft, lines, node, later, style)?;
+        later = run_from(&node.term, draft.size - before, later);
     }
     Ok(())
 }
 
-// How many pieces a term has, or one more for each ElseIf in it. Only how much memory is taken at once rests on this.
+// How many pieces a term has. Only how much memory is taken at once rests on this.
 #[cycle(count)]
 fn pieces_of_term(node: &Node) -> usize {
     match &node.term {
@@ -174,8 +182,8 @@ fn finish(
 ) -> Result<Room, AllocError>
     requires pieces { draft.pieces.items ≡ blanks (nodes_pieces (style_for block.now short) lines.now block.now.terms.items) }
     requires spaces { draft.spaces.items ≡ sizes (nodes_pieces (style_for block.now short) lines.now block.now.terms.items) }
-    requires size { draft.size ≡ length (nodes_bytes (style_for block.now short) [] block.now.terms.items) }
-    requires lengths { Noted (nodes_lengths (style_for block.now short) [] block.now.terms.items) (Some []) draft.notes }
+    requires size { draft.size ≡ length (terms_bytes (style_for block.now short) block.now.terms.items) }
+    requires lengths { Noted (terms_lengths (style_for block.now short) block.now.terms.items) (Some []) draft.notes }
     ensures { IfOk result (IsRoomOf lines.now block.now short) }
 {
     let Draft {

@@ -1,5 +1,5 @@
 //! The room that is kept for the bytes of a piece.
-ghost use Rattle.std.specs.Prelude.{◌≡◌, ◌<◌, ◌+◌, ◌^◌, IfOk};
+ghost use Rattle.std.specs.Prelude.{◌≡◌, IfOk};
 
 use iasl_ports::list::List;
 use std::alloc::{AllocError, Global};
@@ -55,23 +55,5 @@ impl Space {
         Ok(Space {
             store: Store::Many { shell, bytes },
         })
-    }
-    /// How many bytes there is room for.
-    fn count(&self) -> usize
-        ensures size { result ≡ self.now }
-        ensures few { result < 2 ^ 63 }
-    {
-        match &self.store {
-            Store::Few(count) => *count,
-            Store::Many { bytes, .. } => bytes.len(),
-        }
-    }
-
-    /// Room for so many bytes more.
-    pub(crate) fn widened(self, alloc: Global, more: usize) -> Result<Space, AllocError>
-        requires { more < 2 ^ 62 }
-        ensures { IfOk result (λ space. space ≡ self + more) }
-    {
-        Space::of(alloc, self.count() + more)
     }
 }

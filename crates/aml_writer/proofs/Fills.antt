@@ -1,6 +1,6 @@
 -- Pieces that get their bytes in the room for them.
 use Rattle.std.proofs.Common.{◌≡◌, ℕ, suc, ◌+◌, ◌-◌, ◌<◌, Bool, true, false, List, [], ◌∷◌, ◌++◌, length, take, drop, set, get_or, map, refl, sym, ap, ◌∙◌, subst, arith, append_assoc, length-append, length-drop}
-use Rattle.std.specs.Prelude.{sum, ◌&&◌, if◌then◌else◌}
+use Rattle.std.specs.Prelude.{sum}
 use Rattle.std.proofs.lemmas.List.{append-nil, map-append, drop-set, map-set, set-get_or, take_at, take_all}
 use Rattle.iasl_messages.specs.declared.place.Place.{Place}
 use Rattle.iasl_messages.specs.declared.place.Line.{Line}
@@ -13,8 +13,9 @@ use Rattle.asl_tree.specs.declared.program.Block.{Block}
 use Rattle.aml_sizes.specs.declared.style.IntegerStyle.{IntegerStyle}
 use Rattle.aml_code.specs.Header.{header_length, header_with, checksum_of, fields_of}
 use Rattle.aml_sizes.specs.Codes.{letters_of}
-use Rattle.aml_sizes.specs.TermBytes.{term_bytes, row_bytes, nodes_bytes}
-use Rattle.aml_sizes.specs.Pieces.{CutBytes, joined_pieces, piece_at, same_place, begin_at, lengthened, put_before, row_begins_with_if, head_part, form_pieces, term_pieces, row_pieces, nodes_pieces, table_pieces}
+use Rattle.aml_sizes.specs.TermBytes.{term_bytes, row_bytes}
+use Rattle.aml_sizes.specs.TermLists.{own_head, row_terms, row_later, terms_bytes, later_of}
+use Rattle.aml_sizes.specs.Pieces.{joined_pieces, form_pieces, term_pieces, row_pieces, nodes_pieces, table_pieces}
 use Rattle.aml_sizes.specs.Rooms.{blank, size_of, blanks}
 use Rattle.aml_writer.specs.Fills.{bytes_of, with_bytes, filled, joined_parts, EndsIn, Fills}
 use Rattle.aml_writer.proofs.Sums.{sum-append}
@@ -110,67 +111,40 @@ sum_sizes (p ∷ ps) =
     let rest = sum_sizes ps in
     omega (arith, one, l, rest)
 
--- a piece without the text of its line
-abbrev bare : Piece → Piece
-bare piece = record { place = piece.place; source = []; bytes = piece.bytes }
-
-bare_bytes : (ps : List Piece) → map bytes_of (map bare ps) ≡ map bytes_of ps
-bare_bytes [] = refl
-bare_bytes (p ∷ ps) = ap (λ parts. p.bytes ∷ parts) (bare_bytes ps)
-
--- a part at a place before such pieces
-abbrev bare_before : Place → CutBytes → List Piece → List Piece
-bare_before place part ps = if part.opens && begin_at place ps then lengthened part.bytes ps else record { place = place; source = []; bytes = part.bytes } ∷ ps
-
 -- the bytes of pieces rest on no line
-module _ (lines : List Line) (place : Place) where
-  bare_case : (c : Bool) (bytes : List ℕ) (p : Piece) (ps : List Piece) → map bare (if c then lengthened bytes (p ∷ ps) else piece_at lines place bytes ∷ (p ∷ ps)) ≡ (if c then lengthened bytes (map bare (p ∷ ps)) else record { place = place; source = []; bytes = bytes } ∷ map bare (p ∷ ps))
-  bare_case true bytes p ps = refl
-  bare_case false bytes p ps = refl
-
-  bare_part : (o : Bool) (bytes : List ℕ) (ps : List Piece) → map bare (put_before lines place (record { bytes = bytes; opens = o }) ps) ≡ bare_before place (record { bytes = bytes; opens = o }) (map bare ps)
-  bare_part true bytes [] = refl
-  bare_part false bytes [] = refl
-  bare_part true bytes (p ∷ ps) = bare_case (same_place place p.place) bytes p ps
-  bare_part false bytes (p ∷ ps) = refl
-
 module _ (style : IntegerStyle) (lines lines' : List Line) where
-  form_alike : (c : Bool) (place : Place) (head : CutBytes) (whole : List ℕ) (inner inner' : List Piece) → map bare inner ≡ map bare inner' → map bare (form_pieces style lines c place head whole inner) ≡ map bare (form_pieces style lines' c place head whole inner')
-  form_alike true place head whole inner inner' e =
-      bare_part lines place head.opens head.bytes inner ∙ ap (bare_before place head) e ∙ sym (bare_part lines' place head.opens head.bytes inner')
+  form_alike : (c : Bool) (place : Place) (head whole : List ℕ) (inner inner' : List Piece) → map bytes_of inner ≡ map bytes_of inner' → map bytes_of (form_pieces style lines c place head whole inner) ≡ map bytes_of (form_pieces style lines' c place head whole inner')
+  form_alike true place head whole inner inner' e = ap (λ xs. head ∷ xs) e
   form_alike false place head whole inner inner' e = refl
 
   mutual
     unfolding term_pieces
 
-    term_alike : (place : Place) (t : Term) → map bare (term_pieces style lines place t) ≡ map bare (term_pieces style lines' place t)
-    term_alike place (D.Form' op shape args shape' body) =
-        form_alike (holds_terms op) place (head_part op (row_bytes style (letters_of op) args) (length (row_bytes style [] body)) (row_begins_with_if body)) (term_bytes style (D.Form' op shape args shape' body)) (row_pieces style lines body) (row_pieces style lines' body) (row_alike body)
-    term_alike place _ = refl
+    term_alike : (later : ℕ) (place : Place) (t : Term) → map bytes_of (term_pieces style lines later place t) ≡ map bytes_of (term_pieces style lines' later place t)
+    term_alike later place (D.Form' op shape args shape' body) =
+        form_alike (holds_terms op) place (own_head op (row_bytes style (letters_of op) args) (length (row_terms style body)) later) (term_bytes style (D.Form' op shape args shape' body)) (row_pieces style lines body) (row_pieces style lines' body) (row_alike body)
+    term_alike later place _ = refl
 
-    row_alike : {m : _} (row : D.Row_of-Node m) → map bare (row_pieces style lines row) ≡ map bare (row_pieces style lines' row)
+    row_alike : {m : _} (row : D.Row_of-Node m) → map bytes_of (row_pieces style lines row) ≡ map bytes_of (row_pieces style lines' row)
     row_alike D.end_of-Node = refl
     row_alike (D.more_of-Node id place term rest) =
-        map-append bare (term_pieces style lines place term) (row_pieces style lines rest)
-        ∙ ap (λ xs. xs ++ map bare (row_pieces style lines rest)) (term_alike place term)
-        ∙ ap (λ xs. map bare (term_pieces style lines' place term) ++ xs) (row_alike rest)
-        ∙ sym (map-append bare (term_pieces style lines' place term) (row_pieces style lines' rest))
-
-  nodes_bare : (ns : List Node) → map bare (nodes_pieces style lines ns) ≡ map bare (nodes_pieces style lines' ns)
-  unfolding nodes_pieces
-  nodes_bare [] = refl
-  nodes_bare (n ∷ ns) =
-      map-append bare (term_pieces style lines n.place n.term) (nodes_pieces style lines ns)
-      ∙ ap (λ xs. xs ++ map bare (nodes_pieces style lines ns)) (term_alike n.place n.term)
-      ∙ ap (λ xs. map bare (term_pieces style lines' n.place n.term) ++ xs) (nodes_bare ns)
-      ∙ sym (map-append bare (term_pieces style lines' n.place n.term) (nodes_pieces style lines' ns))
+        map-append bytes_of (term_pieces style lines (row_later style rest) place term) (row_pieces style lines rest)
+        ∙ ap (λ xs. xs ++ map bytes_of (row_pieces style lines rest)) (term_alike (row_later style rest) place term)
+        ∙ ap (λ xs. map bytes_of (term_pieces style lines' (row_later style rest) place term) ++ xs) (row_alike rest)
+        ∙ sym (map-append bytes_of (term_pieces style lines' (row_later style rest) place term) (row_pieces style lines' rest))
 
   pub nodes_alike : (ns : List Node) → map bytes_of (nodes_pieces style lines ns) ≡ map bytes_of (nodes_pieces style lines' ns)
-  nodes_alike ns = sym (bare_bytes (nodes_pieces style lines ns)) ∙ ap (map bytes_of) (nodes_bare ns) ∙ bare_bytes (nodes_pieces style lines' ns)
+  unfolding nodes_pieces
+  nodes_alike [] = refl
+  nodes_alike (n ∷ ns) =
+      map-append bytes_of (term_pieces style lines (later_of style ns) n.place n.term) (nodes_pieces style lines ns)
+      ∙ ap (λ xs. xs ++ map bytes_of (nodes_pieces style lines ns)) (term_alike (later_of style ns) n.place n.term)
+      ∙ ap (λ xs. map bytes_of (term_pieces style lines' (later_of style ns) n.place n.term) ++ xs) (nodes_alike ns)
+      ∙ sym (map-append bytes_of (term_pieces style lines' (later_of style ns) n.place n.term) (nodes_pieces style lines' ns))
 
   pub table_alike : (block : Block) → map bytes_of (table_pieces style lines block) ≡ map bytes_of (table_pieces style lines' block)
   table_alike block =
-      let content = nodes_bytes style [] block.terms.items in
+      let content = terms_bytes style block.terms.items in
       let size = header_length + length content in
       ap (λ parts. header_with (fields_of block) size (checksum_of (header_with (fields_of block) size 0 ++ content)) ∷ parts) (nodes_alike block.terms.items)
 

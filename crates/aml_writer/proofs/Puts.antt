@@ -1,5 +1,5 @@
 -- Bytes that are put before others.
-use Rattle.std.proofs.Common.{◌≡◌, ℕ, ◌+◌, ◌-◌, ◌≤◌, false, List, [], ◌∷◌, ◌++◌, length, take, drop, set, replicate, sym, ap, ◌∙◌, arith, append_assoc}
+use Rattle.std.proofs.Common.{◌≡◌, ℕ, ◌+◌, ◌-◌, ◌≤◌, false, List, [], ◌∷◌, ◌++◌, length, take, drop, set, replicate, sym, ap, ◌∙◌, refl, arith, append_assoc}
 use Rattle.std.specs.Prelude.{nat_le, if◌then◌else◌}
 use Rattle.std.proofs.lemmas.List.{drop_at, drop-drop, length-take-le, drop-set}
 use Rattle.byteorder.specs.Endian.{little_bytes}
@@ -7,6 +7,8 @@ use Rattle.byteorder.proofs.Bytes.{take-bytes_low_first}
 use Rattle.acpi_values.specs.Paths.{NameSeg}
 use Rattle.asl_tree.specs.declared.path.Path.{Path}
 use Rattle.aml_code.specs.Encoding.{prefix_bytes, name_path_bytes}
+use Rattle.aml_sizes.specs.declared.style.IntegerStyle.{IntegerStyle}
+use Rattle.aml_sizes.specs.TermBytes.{nodes_bytes}
 use Rattle.aml_sizes.specs.Items.{written_name}
 
 pub byte_put : (out : List ℕ) (to at byte : ℕ) → to + 1 ≡ at → at ≤ length out → drop to (set out to byte) ≡ byte ∷ drop at out
@@ -42,3 +44,8 @@ single_name path segment er eu es =
     ap (λ segs. if nat_le (length segs) 255 then prefix_bytes path ++ name_path_bytes segs else []) es
     ∙ ap (λ root. (if root then 0x5C ∷ [] else replicate path.up 0x5E) ++ segment) er
     ∙ ap (λ (n : ℕ). replicate n 0x5E ++ segment) none
+
+-- no nodes have no bytes
+pub no_bytes : (style : IntegerStyle) → nodes_bytes style [] [] ≡ []
+unfolding nodes_bytes
+no_bytes style = refl

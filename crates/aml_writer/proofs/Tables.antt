@@ -12,7 +12,7 @@ use Rattle.asl_tree.specs.declared.program.Block.{Block}
 use Rattle.asl_tree.specs.Names.{Known}
 use Rattle.asl_meaning.specs.Starts.{IsKnownStart}
 use Rattle.asl_tree.specs.View.{trees_of}
-use Rattle.aml_meaning.specs.Encoded.{encoded_all}
+use Rattle.aml_meaning.specs.Encoded.{encoded_terms}
 use Rattle.aml_code.specs.Header.{header_length, header_with, checksum_of, fields_of, table_bytes, IsHeader}
 use Rattle.aml_meaning.specs.ByteSession.{IsFaithful}
 use Rattle.aml_sessions.specs.Ready.{IsReadyBlock}
@@ -21,7 +21,7 @@ use Rattle.aml_sessions.proofs.Tables.{definition_is, width_is, length_is, is_he
 use Rattle.aml_sizes.specs.Sizes.{most_content_bytes}
 use Rattle.aml_sizes.specs.declared.style.IntegerStyle.{IntegerStyle}
 use Rattle.aml_sizes.specs.Styles.{style_of}
-use Rattle.aml_sizes.specs.TermBytes.{nodes_bytes}
+use Rattle.aml_sizes.specs.TermLists.{terms_bytes}
 use Rattle.aml_sizes.specs.Pieces.{joined_pieces, nodes_pieces, table_pieces}
 use Rattle.aml_sizes.specs.TableSizes.{most_table_bytes}
 use Rattle.aml_writer.specs.Written.{IsTableOf}
@@ -33,14 +33,14 @@ use Rattle.aml_sizes.proofs.NodePieces.{nodes_joined}
 use Rattle.aml_sizes.proofs.Encodings.{ready_bytes, joined_is, table_size}
 
 -- what a ready block's pieces join to is its table
-pub table_of : (known : Known) (externals : Names) (short : Bool) (lines : List Line) (block : Block) (pieces : List Piece) → length (nodes_bytes (style_of block short) [] block.terms.items) ≤ most_content_bytes → pieces ≡ table_pieces (style_of block short) lines block → IsKnownStart known externals → IsReadyBlock known block → IsTableOf known externals block short (joined_pieces pieces)
+pub table_of : (known : Known) (externals : Names) (short : Bool) (lines : List Line) (block : Block) (pieces : List Piece) → length (terms_bytes (style_of block short) block.terms.items) ≤ most_content_bytes → pieces ≡ table_pieces (style_of block short) lines block → IsKnownStart known externals → IsReadyBlock known block → IsTableOf known externals block short (joined_pieces pieces)
 table_of known externals short lines block pieces within is start ready =
     let style = style_of block short in
     let width = style.width in
     let bytes = joined_pieces pieces in
     let fields = fields_of block in
-    let content = encoded_all width short (trees_of block.terms.items) in
-    let written_is : nodes_bytes style [] block.terms.items ≡ content = ready_bytes known style block.terms.items ready.terms in
+    let content = encoded_terms width short (trees_of block.terms.items) in
+    let written_is : terms_bytes style block.terms.items ≡ content = ready_bytes known style block.terms.items ready.terms in
     let size : length content ≤ most_content_bytes = subst (λ bs. length bs ≤ most_content_bytes) written_is within in
     let table : bytes ≡ table_bytes fields content = ap joined_pieces is ∙ joined_is known short lines block ready in
     record {
@@ -51,11 +51,11 @@ table_of known externals short lines block pieces within is start ready =
     }
 
 -- the bytes of a block's pieces: its header, and those of its terms
-pub parts_are : (block : Block) (short : Bool) → table_parts_of block short ≡ header_for block (length (nodes_bytes (style_of block short) [] block.terms.items)) (nodes_parts (style_of block short) block.terms.items) ∷ nodes_parts (style_of block short) block.terms.items
+pub parts_are : (block : Block) (short : Bool) → table_parts_of block short ≡ header_for block (length (terms_bytes (style_of block short) block.terms.items)) (nodes_parts (style_of block short) block.terms.items) ∷ nodes_parts (style_of block short) block.terms.items
 parts_are block short =
     let style = style_of block short in
     let terms = block.terms.items in
-    let content = nodes_bytes style [] terms in
+    let content = terms_bytes style terms in
     let size = header_length + length content in
     let same : joined_parts (nodes_parts style terms) ≡ content = parts_joined (nodes_pieces style [] terms) ∙ nodes_joined style [] terms in
     ap (λ bs. header_with (fields_of block) size (checksum_of (header_with (fields_of block) size 0 ++ bs)) ∷ nodes_parts style terms) (sym same)
@@ -82,43 +82,43 @@ room_filled lines block short room pieces is e =
 pub ends_with_terms : (block : Block) (short : Bool) (room : Room) → HasRoom block short room → EndsIn room.spaces (nodes_parts (style_of block short) block.terms.items)
 ends_with_terms block short room has =
     let parts = table_parts_of block short in
-    let header = header_for block (length (nodes_bytes (style_of block short) [] block.terms.items)) (nodes_parts (style_of block short) block.terms.items) in
+    let header = header_for block (length (terms_bytes (style_of block short) block.terms.items)) (nodes_parts (style_of block short) block.terms.items) in
     record {
       rest = length header ∷ [];
       is = has.spaces ∙ sym (parts_sizes (table_pieces (style_of block short) [] block)) ∙ ap (map length) (parts_are block short);
     }
 
-pub ends_with_header : (block : Block) (short : Bool) (room : Room) (spaces : List ℕ) (pieces : List Piece) → HasRoom block short room → Fills (nodes_parts (style_of block short) block.terms.items) room.spaces spaces room.pieces pieces → EndsIn spaces (header_for block (length (nodes_bytes (style_of block short) [] block.terms.items)) (nodes_parts (style_of block short) block.terms.items) ∷ [])
+pub ends_with_header : (block : Block) (short : Bool) (room : Room) (spaces : List ℕ) (pieces : List Piece) → HasRoom block short room → Fills (nodes_parts (style_of block short) block.terms.items) room.spaces spaces room.pieces pieces → EndsIn spaces (header_for block (length (terms_bytes (style_of block short) block.terms.items)) (nodes_parts (style_of block short) block.terms.items) ∷ [])
 unfolding ends_with_terms
 ends_with_header block short room spaces pieces has put =
     let ends = ends_with_terms block short room has in record { rest = []; is = put.left ends.rest ends.is }
 
 -- the header by what is known of the pieces behind it
-pub header_here : (block : Block) (short : Bool) (room : Room) (size : ℕ) (spaces : List ℕ) (pieces : List Piece) → HasRoom block short room → Fills (nodes_parts (style_of block short) block.terms.items) room.spaces spaces room.pieces pieces → size ≡ length (nodes_bytes (style_of block short) [] block.terms.items)
-    → header_for block size (map bytes_of (drop (length spaces) pieces)) ≡ header_for block (length (nodes_bytes (style_of block short) [] block.terms.items)) (nodes_parts (style_of block short) block.terms.items)
+pub header_here : (block : Block) (short : Bool) (room : Room) (size : ℕ) (spaces : List ℕ) (pieces : List Piece) → HasRoom block short room → Fills (nodes_parts (style_of block short) block.terms.items) room.spaces spaces room.pieces pieces → size ≡ length (terms_bytes (style_of block short) block.terms.items)
+    → header_for block size (map bytes_of (drop (length spaces) pieces)) ≡ header_for block (length (terms_bytes (style_of block short) block.terms.items)) (nodes_parts (style_of block short) block.terms.items)
 header_here block short room size spaces pieces has put e =
     let parts = nodes_parts (style_of block short) block.terms.items in
     let before : map bytes_of (drop (length room.spaces) room.pieces) ≡ [] = ap (map bytes_of) (drop_all (length room.spaces) room.pieces (omega (arith, has.count))) in
     ap (λ n. header_for block n (map bytes_of (drop (length spaces) pieces))) e
-    ∙ ap (header_for block (length (nodes_bytes (style_of block short) [] block.terms.items))) (put.full ∙ ap (λ xs. parts ++ xs) before ∙ append-nil parts)
+    ∙ ap (header_for block (length (terms_bytes (style_of block short) block.terms.items))) (put.full ∙ ap (λ xs. parts ++ xs) before ∙ append-nil parts)
 
 -- all the pieces have their bytes
 pub all_filled : (block : Block) (short : Bool) (room : Room) (spaces spaces' : List ℕ) (pieces pieces' : List Piece) → HasRoom block short room → Fills (nodes_parts (style_of block short) block.terms.items) room.spaces spaces room.pieces pieces →
-    Fills (header_for block (length (nodes_bytes (style_of block short) [] block.terms.items)) (nodes_parts (style_of block short) block.terms.items) ∷ []) spaces spaces' pieces pieces' → pieces' ≡ filled room.pieces (table_parts_of block short)
+    Fills (header_for block (length (terms_bytes (style_of block short) block.terms.items)) (nodes_parts (style_of block short) block.terms.items) ∷ []) spaces spaces' pieces pieces' → pieces' ≡ filled room.pieces (table_parts_of block short)
 unfolding ends_with_header
 all_filled block short room spaces spaces' pieces pieces' has terms header =
     let none : spaces' ≡ [] = header.left [] (ends_with_header block short room spaces pieces has terms).is in
     let before : map bytes_of (drop (length room.spaces) room.pieces) ≡ [] = ap (map bytes_of) (drop_all (length room.spaces) room.pieces (omega (arith, has.count))) in
     let bytes : map bytes_of pieces' ≡ table_parts_of block short =
     ap (λ (ss : List ℕ). map bytes_of (drop (length ss) pieces')) (sym none) ∙ header.full
-    ∙ ap (λ parts. header_for block (length (nodes_bytes (style_of block short) [] block.terms.items)) (nodes_parts (style_of block short) block.terms.items) ∷ parts) (terms.full ∙ ap (λ parts. nodes_parts (style_of block short) block.terms.items ++ parts) before ∙ append-nil (nodes_parts (style_of block short) block.terms.items)) ∙ sym (parts_are block short) in
+    ∙ ap (λ parts. header_for block (length (terms_bytes (style_of block short) block.terms.items)) (nodes_parts (style_of block short) block.terms.items) ∷ parts) (terms.full ∙ ap (λ parts. nodes_parts (style_of block short) block.terms.items ++ parts) before ∙ append-nil (nodes_parts (style_of block short) block.terms.items)) ∙ sym (parts_are block short) in
     filled_is pieces' room.pieces (header.blanks ∙ terms.blanks) ∙ ap (filled room.pieces) bytes
 
 -- the rooms of a block have no more than 16 MiB
 pub room_within : (block : Block) (short : Bool) (room : Room) → HasRoom block short room → sum room.spaces ≤ 16777216
 room_within block short room has =
     let style = style_of block short in
-    let whole : sum room.spaces ≡ 36 + length (nodes_bytes style [] block.terms.items) = ap sum has.spaces ∙ sum_sizes (table_pieces style [] block) ∙ table_size style [] block in
+    let whole : sum room.spaces ≡ 36 + length (terms_bytes style block.terms.items) = ap sum has.spaces ∙ sum_sizes (table_pieces style [] block) ∙ table_size style [] block in
     omega (arith, whole, has.within)
 
 -- what was put in by other names
@@ -130,9 +130,9 @@ pub named_ends : (style style' : IntegerStyle) (ns ns' : List Node) (s s' : List
 named_ends style style' ns ns' s s' es en espaces h =
     subst (λ (o : IntegerStyle). EndsIn s (nodes_parts o ns)) (sym es) (subst (λ ms. EndsIn s (nodes_parts style' ms)) (sym en) (subst (λ r. EndsIn r (nodes_parts style' ns')) (sym espaces) h))
 
-pub named_size : (style style' : IntegerStyle) (ns ns' : List Node) (size : ℕ) → style ≡ style' → ns ≡ ns' → size ≡ 0 + length (nodes_bytes style [] ns) → size ≡ length (nodes_bytes style' [] ns')
+pub named_size : (style style' : IntegerStyle) (ns ns' : List Node) (size : ℕ) → style ≡ style' → ns ≡ ns' → size ≡ 0 + length (terms_bytes style ns) → size ≡ length (terms_bytes style' ns')
 named_size style style' ns ns' size es en e =
-    let same : length (nodes_bytes style [] ns) ≡ length (nodes_bytes style' [] ns') = ap (λ (o : IntegerStyle). length (nodes_bytes o [] ns)) es ∙ ap (λ ms. length (nodes_bytes style' [] ms)) en in
+    let same : length (terms_bytes style ns) ≡ length (terms_bytes style' ns') = ap (λ (o : IntegerStyle). length (terms_bytes o ns)) es ∙ ap (λ ms. length (terms_bytes style' ms)) en in
     omega (arith, e, same)
 
 -- the block that is there

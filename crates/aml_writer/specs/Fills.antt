@@ -10,10 +10,11 @@ use Rattle.aml_sizes.specs.Sizes.{most_content_bytes}
 use Rattle.aml_sizes.specs.Styles.{style_of}
 use Rattle.asl_tree.specs.declared.term.Op.{Op}
 use Rattle.aml_sizes.specs.Codes.{letters_of}
-use Rattle.aml_sizes.specs.TermBytes.{head_bytes, nodes_bytes}
-use Rattle.aml_sizes.specs.PackageLengths.{nodes_lengths}
+use Rattle.aml_sizes.specs.TermBytes.{nodes_bytes}
+use Rattle.aml_sizes.specs.TermLists.{own_head, terms_bytes}
+use Rattle.aml_sizes.specs.PackageLengths.{terms_lengths}
 use Rattle.aml_sizes.specs.Rooms.{blank, size_of}
-use Rattle.aml_sizes.specs.Pieces.{else_if_bytes, nodes_pieces, table_pieces}
+use Rattle.aml_sizes.specs.Pieces.{nodes_pieces, table_pieces}
 
 abbrev pub bytes_of : Piece → List ℕ
 bytes_of piece = piece.bytes
@@ -22,32 +23,17 @@ bytes_of piece = piece.bytes
 abbrev pub nodes_parts : IntegerStyle → List Node → List (List ℕ)
 nodes_parts style nodes = map bytes_of (nodes_pieces style [] nodes)
 
--- the bytes of the pieces of a form that begins a piece of its own: before its terms, and those of them
-abbrev pub own_parts : IntegerStyle → Op → List Node → List Node → List (List ℕ)
-own_parts style op args body = head_bytes op (nodes_bytes style (letters_of op) args) (length (nodes_bytes style [] body)) ∷ nodes_parts
-    style body
-
--- the bytes of the pieces of an Else that is one piece with the If that begins it: before the terms of the If, those of
--- them, and those behind the If
-abbrev pub else_if_parts : IntegerStyle → Op → List Node → Op → List Node → List Node → List Node → List (List ℕ)
-else_if_parts style op args first_op first_args inner rest =
-    else_if_bytes op (nodes_bytes style (letters_of op) args) first_op (nodes_bytes style (letters_of first_op) first_args)
-    (length (nodes_bytes style [] inner)) (length (nodes_bytes style [] rest))
-    ∷ (nodes_parts style inner ++ nodes_parts style rest)
-
-abbrev pub else_if_size : IntegerStyle → Op → List Node → Op → List Node → List Node → List Node → ℕ
-else_if_size style op args first_op first_args inner rest =
-    let inner_size = length (nodes_bytes style [] inner) in
-    let rest_size = length (nodes_bytes style [] rest) in
-    length (else_if_bytes op (nodes_bytes style (letters_of op) args) first_op (nodes_bytes style (letters_of first_op) first_args)
-    inner_size rest_size) + (inner_size + rest_size)
+-- the bytes of the pieces of a form that holds terms, before so many bytes of its run: before its terms, and those of them
+abbrev pub own_parts : IntegerStyle → Op → List Node → List Node → ℕ → List (List ℕ)
+own_parts style op args body later =
+    own_head op (nodes_bytes style (letters_of op) args) (length (terms_bytes style body)) later ∷ nodes_parts style body
 
 -- room for a block's table, whatever the lines of its pieces
 pub record HasRoom (block : Block) (short : Bool) (room : Room) : Type 0 where
   pub count : length room.pieces ≡ length room.spaces
   pub spaces : room.spaces ≡ map size_of (table_pieces (style_of block short) [] block)
-  pub lengths : room.lengths ≡ nodes_lengths (style_of block short) [] block.terms.items
-  pub within : length (nodes_bytes (style_of block short) [] block.terms.items) ≤ most_content_bytes
+  pub lengths : room.lengths ≡ terms_lengths (style_of block short) block.terms.items
+  pub within : length (terms_bytes (style_of block short) block.terms.items) ≤ most_content_bytes
 
 abbrev pub with_bytes : Piece → List ℕ → Piece
 with_bytes piece bytes = record { place = piece.place; source = piece.source; bytes = bytes }

@@ -1,11 +1,11 @@
 //! The bytes of a table, put into the room that was kept for them. No call here can be refused.
-ghost use Rattle.std.specs.Prelude.{true, ◌≡◌, ◌≤◌, ◌<◌, ◌^◌, ◌++◌, ◌+◌, ◌∷◌, [], false, length, drop, set, get_or, map, sum};
+ghost use Rattle.std.specs.Prelude.{◌≡◌, ◌≤◌, ◌<◌, ◌^◌, ◌++◌, ◌+◌, ◌∷◌, [], false, length, drop, set, get_or, map, sum};
 ghost use Rattle.iasl_messages.specs.declared.place.Piece.{Piece};
 ghost use Rattle.aml_sizes.specs.Codes.{letters_of};
-ghost use Rattle.aml_sizes.specs.TermBytes.{head_bytes, term_bytes, nodes_bytes};
-ghost use Rattle.aml_sizes.specs.Pieces.{is_container, is_else_if as is_else_if_form, else_if_bytes, container_bytes, container_pieces};
-ghost use Rattle.aml_sizes.specs.Pieces.{term_pieces};
-ghost use Rattle.aml_writer.specs.Fills.{bytes_of, with_bytes, nodes_parts, own_parts, else_if_parts, else_if_size, filled, table_parts_of};
+ghost use Rattle.aml_sizes.specs.TermBytes.{term_bytes, nodes_bytes};
+ghost use Rattle.aml_sizes.specs.TermLists.{else_if_head, own_head, own_bytes, terms_bytes, container_bytes};
+ghost use Rattle.aml_sizes.specs.Pieces.{is_container, term_pieces};
+ghost use Rattle.aml_writer.specs.Fills.{bytes_of, with_bytes, nodes_parts, own_parts, filled, table_parts_of};
 ghost use Rattle.aml_writer.specs.Fills.{EndsIn, Fills, HasRoom, header_for};
 ghost use Rattle.aml_sizes.specs.TableSizes.{AtBlock};
 
@@ -13,13 +13,13 @@ use crate::header::{completing_byte, header};
 use crate::put::put;
 use crate::term_bytes::{put_head, put_term};
 use aml_sizes::codes::holds_terms;
-use aml_sizes::else_if::is_else_if;
+use aml_sizes::else_if::{is_else_if, run_from};
 use aml_sizes::reserve::Room;
 use aml_sizes::space::{FEW, HEADER_BYTES, Space, Store};
 use aml_sizes::style::{IntegerStyle, style_of};
 use asl_tree::program::{Block, Core};
-use asl_tree::term::{Node, Op, Term};
-use iasl_messages::place::{Piece, Pieces, Place};
+use asl_tree::term::{Control, Node, Op, Term};
+use iasl_messages::place::{Piece, Pieces};
 use iasl_ports::list::Text;
 
 fn few_of_term(term: &Term, style: IntegerStyle) -> Text
@@ -52,13 +52,64 @@ fn text_of_term(space: Space, term: &Term, style: IntegerStyle) -> Text
     }
 }
 
-fn few_of_head(op: Op, args: &[Node], body: usize, style: IntegerStyle) -> Text
-    requires room { length (head_bytes op (nodes_bytes style (letters_of op) args.now) body) ≤ 14 }
-    requires size { body < 2 ^ 63 }
-    ensures { result ≡ head_bytes op (nodes_bytes style (letters_of op) args.now) body }
+// An ElseIf up to its terms, which have so many bytes, before so many of its run.
+#[tactic(auto, using(crate::proofs::Puts::no_bytes))]
+fn put_else_if(
+    out: &mut [u8],
+    at: usize,
+    args: &[Node],
+    body: usize,
+    later: usize,
+    style: IntegerStyle,
+) -> usize
+    requires size { length (else_if_head (nodes_bytes style [] args.now) body later) + body + later < 2 ^ 63 }
+    requires room { length (else_if_head (nodes_bytes style [] args.now) body later) ≤ at }
+    requires within { at ≤ length out.old }
+    ensures at { result + length (else_if_head (nodes_bytes style [] args.now) body later) ≡ at }
+    ensures bytes { drop result out.new ≡ else_if_head (nodes_bytes style [] args.now) body later ++ drop at out.old }
+{
+    let none: &[Node] = &[];
+    let to = put_head(out, at, Op::Control(Control::If), args, body, style);
+    put_head(
+        out,
+        to,
+        Op::Control(Control::Else),
+        none,
+        at - to + body + later,
+        style,
+    )
+}
+
+// A form that holds terms up to these, which have so many bytes, before so many of its run.
+fn put_own_head(
+    out: &mut [u8],
+    at: usize,
+    op: Op,
+    args: &[Node],
+    body: usize,
+    later: usize,
+    style: IntegerStyle,
+) -> usize
+    requires size { length (own_head op (nodes_bytes style (letters_of op) args.now) body later) + body + later < 2 ^ 63 }
+    requires room { length (own_head op (nodes_bytes style (letters_of op) args.now) body later) ≤ at }
+    requires within { at ≤ length out.old }
+    ensures at { result + length (own_head op (nodes_bytes style (letters_of op) args.now) body later) ≡ at }
+    ensures bytes { drop result out.new ≡ own_head op (nodes_bytes style (letters_of op) args.now) body later ++ drop at out.old }
+{
+    if is_else_if(op) {
+        put_else_if(out, at, args, body, later, style)
+    } else {
+        put_head(out, at, op, args, body, style)
+    }
+}
+
+fn few_of_head(op: Op, args: &[Node], body: usize, later: usize, style: IntegerStyle) -> Text
+    requires room { length (own_head op (nodes_bytes style (letters_of op) args.now) body later) ≤ 14 }
+    requires size { body + later < 2 ^ 62 }
+    ensures { result ≡ own_head op (nodes_bytes style (letters_of op) args.now) body later }
 {
     let mut bytes = [0u8; FEW];
-    let at = put_head(&mut bytes, FEW, op, args, body, style);
+    let at = put_own_head(&mut bytes, FEW, op, args, body, later, style);
     Text::of_few(&bytes[at..])
 }
 
@@ -68,129 +119,35 @@ fn many_of_head(
     op: Op,
     args: &[Node],
     body: usize,
+    later: usize,
     style: IntegerStyle,
 ) -> Text
-    requires room { length (head_bytes op (nodes_bytes style (letters_of op) args.now) body) ≡ length bytes.items }
-    requires size { body < 2 ^ 63 }
-    ensures { result ≡ head_bytes op (nodes_bytes style (letters_of op) args.now) body }
+    requires room { length (own_head op (nodes_bytes style (letters_of op) args.now) body later) ≡ length bytes.items }
+    requires size { length (own_head op (nodes_bytes style (letters_of op) args.now) body later) + body + later < 2 ^ 63 }
+    ensures { result ≡ own_head op (nodes_bytes style (letters_of op) args.now) body later }
 {
     let mut bytes = bytes;
     let end = bytes.len();
-    put_head(&mut bytes, end, op, args, body, style);
+    put_own_head(&mut bytes, end, op, args, body, later, style);
     Text::in_box(shell, bytes)
 }
 
-// A form up to its body, which has so many bytes, in the room for it.
-fn text_of_head(space: Space, op: Op, args: &[Node], body: usize, style: IntegerStyle) -> Text
-    requires room { space ≡ length (head_bytes op (nodes_bytes style (letters_of op) args.now) body) }
-    requires size { body < 2 ^ 63 }
-    ensures { result ≡ head_bytes op (nodes_bytes style (letters_of op) args.now) body }
-{
-    match space.store {
-        Store::Few(_) => few_of_head(op, args, body, style),
-        Store::Many { shell, bytes } => many_of_head(shell, bytes, op, args, body, style),
-    }
-}
-
-// An Else up to the terms of the If that begins it, which have so many bytes; so many more are behind these.
-fn put_else_if(
-    out: &mut [u8],
-    at: usize,
-    op: Op,
-    args: &[Node],
-    first_op: Op,
-    first_args: &[Node],
-    inner: usize,
-    later: usize,
-    style: IntegerStyle,
-) -> usize
-    requires size { length (head_bytes first_op (nodes_bytes style (letters_of first_op) first_args.now) inner) + inner + later < 2 ^ 63 }
-    requires room { length
-        (else_if_bytes op (nodes_bytes style (letters_of op) args.now) first_op (nodes_bytes style (letters_of first_op) first_args.now)
-        inner later) ≤ at }
-    requires within { at ≤ length out.old }
-    ensures at { result + length
-        (else_if_bytes op (nodes_bytes style (letters_of op) args.now) first_op (nodes_bytes style (letters_of first_op) first_args.now)
-        inner later) ≡ at }
-    ensures bytes { drop result out.new ≡ else_if_bytes op (nodes_bytes style (letters_of op) args.now) first_op
-        (nodes_bytes style (letters_of first_op) first_args.now) inner later ++ drop at out.old }
-{
-    let to = put_head(out, at, first_op, first_args, inner, style);
-    put_head(out, to, op, args, at - to + inner + later, style)
-}
-
-fn few_of_else_if(
-    op: Op,
-    args: &[Node],
-    first_op: Op,
-    first_args: &[Node],
-    inner: usize,
-    later: usize,
-    style: IntegerStyle,
-) -> Text
-    requires size { length (head_bytes first_op (nodes_bytes style (letters_of first_op) first_args.now) inner) + inner + later < 2 ^ 63 }
-    requires room { length
-        (else_if_bytes op (nodes_bytes style (letters_of op) args.now) first_op (nodes_bytes style (letters_of first_op) first_args.now)
-        inner later) ≤ 14 }
-    ensures { result ≡ else_if_bytes op (nodes_bytes style (letters_of op) args.now) first_op
-        (nodes_bytes style (letters_of first_op) first_args.now) inner later }
-{
-    let mut bytes = [0u8; FEW];
-    let at = put_else_if(
-        &mut bytes, FEW, op, args, first_op, first_args, inner, later, style,
-    );
-    Text::of_few(&bytes[at..])
-}
-
-fn many_of_else_if(
-    shell: Box<Vec<u8>>,
-    bytes: Vec<u8>,
-    op: Op,
-    args: &[Node],
-    first_op: Op,
-    first_args: &[Node],
-    inner: usize,
-    later: usize,
-    style: IntegerStyle,
-) -> Text
-    requires size { length (head_bytes first_op (nodes_bytes style (letters_of first_op) first_args.now) inner) + inner + later < 2 ^ 63 }
-    requires room { length
-        (else_if_bytes op (nodes_bytes style (letters_of op) args.now) first_op (nodes_bytes style (letters_of first_op) first_args.now)
-        inner later) ≡ length bytes.items }
-    ensures { result ≡ else_if_bytes op (nodes_bytes style (letters_of op) args.now) first_op
-        (nodes_bytes style (letters_of first_op) first_args.now) inner later }
-{
-    let mut bytes = bytes;
-    let end = bytes.len();
-    put_else_if(
-        &mut bytes, end, op, args, first_op, first_args, inner, later, style,
-    );
-    Text::in_box(shell, bytes)
-}
-
-// An Else and the If that begins it up to its terms, in the room for them.
-fn text_of_else_if(
+// A form that holds terms up to these, which have so many bytes, before so many of its run, in the room for it.
+fn text_of_head(
     space: Space,
     op: Op,
     args: &[Node],
-    first_op: Op,
-    first_args: &[Node],
-    inner: usize,
+    body: usize,
     later: usize,
     style: IntegerStyle,
 ) -> Text
-    requires size { length (head_bytes first_op (nodes_bytes style (letters_of first_op) first_args.now) inner) + inner + later < 2 ^ 63 }
-    requires room { space ≡ length
-        (else_if_bytes op (nodes_bytes style (letters_of op) args.now) first_op (nodes_bytes style (letters_of first_op) first_args.now)
-        inner later) }
-    ensures { result ≡ else_if_bytes op (nodes_bytes style (letters_of op) args.now) first_op
-        (nodes_bytes style (letters_of first_op) first_args.now) inner later }
+    requires room { space ≡ length (own_head op (nodes_bytes style (letters_of op) args.now) body later) }
+    requires size { space + body + later < 2 ^ 62 }
+    ensures { result ≡ own_head op (nodes_bytes style (letters_of op) args.now) body later }
 {
     match space.store {
-        Store::Few(_) => few_of_else_if(op, args, first_op, first_args, inner, later, style),
-        Store::Many { shell, bytes } => many_of_else_if(
-            shell, bytes, op, args, first_op, first_args, inner, later, style,
-        ),
+        Store::Few(_) => few_of_head(op, args, body, later, style),
+        Store::Many { shell, bytes } => many_of_head(shell, bytes, op, args, body, later, style),
     }
 }
 
@@ -284,27 +241,34 @@ fn fill_whole(filling: &mut Filling, term: &Term, style: IntegerStyle)
     filling.put(bytes);
 }
 
-// The one piece of a term that holds no list of terms.
-fn fill_alone(filling: &mut Filling, node: &Node, style: IntegerStyle)
+// The one piece of a term that holds no list of terms, whatever stands behind it.
+fn fill_alone(filling: &mut Filling, node: &Node, later: usize, style: IntegerStyle)
     requires alone { is_container node.now.term ≡ false }
-    requires ends { EndsIn filling.old.spaces.items (map bytes_of (term_pieces style [] node.now.place node.now.term)) }
-    ensures fills { Fills (map bytes_of (term_pieces style [] node.now.place node.now.term)) filling.old.spaces.items
+    requires ends { EndsIn filling.old.spaces.items (map bytes_of (term_pieces style [] later node.now.place node.now.term)) }
+    ensures fills { Fills (map bytes_of (term_pieces style [] later node.now.place node.now.term)) filling.old.spaces.items
         filling.new.spaces.items filling.old.pieces.items filling.new.pieces.items }
-    ensures size { filling.new.size ≡ filling.old.size + length (term_bytes style node.now.term) }
+    ensures size { filling.new.size ≡ filling.old.size + length (own_bytes style later node.now.term) }
 {
     fill_whole(filling, &node.term, style);
 }
 
-// A form up to its body, which has so many bytes.
-fn fill_head(filling: &mut Filling, op: Op, args: &[Node], body: usize, style: IntegerStyle)
-    requires ends { EndsIn filling.old.spaces.items (head_bytes op (nodes_bytes style (letters_of op) args.now) body ∷ []) }
-    requires size { body < 2 ^ 63 }
-    ensures fills { Fills (head_bytes op (nodes_bytes style (letters_of op) args.now) body ∷ []) filling.old.spaces.items
+// A form that holds terms up to these, which have so many bytes, before so many of its run.
+fn fill_head(
+    filling: &mut Filling,
+    op: Op,
+    args: &[Node],
+    body: usize,
+    later: usize,
+    style: IntegerStyle,
+)
+    requires ends { EndsIn filling.old.spaces.items (own_head op (nodes_bytes style (letters_of op) args.now) body later ∷ []) }
+    requires size { body + later < 2 ^ 60 }
+    ensures fills { Fills (own_head op (nodes_bytes style (letters_of op) args.now) body later ∷ []) filling.old.spaces.items
         filling.new.spaces.items filling.old.pieces.items filling.new.pieces.items }
-    ensures size { filling.new.size ≡ filling.old.size + length (head_bytes op (nodes_bytes style (letters_of op) args.now) body) }
+    ensures size { filling.new.size ≡ filling.old.size + length (own_head op (nodes_bytes style (letters_of op) args.now) body later) }
 {
     let space = filling.next();
-    let bytes = text_of_head(space, op, args, body, style);
+    let bytes = text_of_head(space, op, args, body, later, style);
     filling.put(bytes);
 }
 
@@ -317,148 +281,46 @@ fn fill_bytes(filling: &mut Filling, given: &[u8])
     filling.put(bytes);
 }
 
-// An Else and the If that begins it, up to the terms of this, which have so many bytes; so many more are behind these.
-fn fill_else_if_head(
+// A form that holds terms, before so many bytes of its run: those of its terms, and then what stands before them.
+#[cycle(fill)]
+fn fill_own(
     filling: &mut Filling,
     op: Op,
+    body: &[Node],
     args: &[Node],
-    first_op: Op,
-    first_args: &[Node],
-    inner: usize,
     later: usize,
     style: IntegerStyle,
 )
-    requires ends { EndsIn filling.old.spaces.items
-        (else_if_bytes op (nodes_bytes style (letters_of op) args.now) first_op (nodes_bytes style (letters_of first_op) first_args.now)
-        inner later ∷ []) }
-    requires size { inner + later < 2 ^ 62 }
-    ensures fills { Fills
-        (else_if_bytes op (nodes_bytes style (letters_of op) args.now) first_op (nodes_bytes style (letters_of first_op) first_args.now)
-        inner later ∷ []) filling.old.spaces.items filling.new.spaces.items filling.old.pieces.items filling.new.pieces.items }
-    ensures size { filling.new.size ≡ filling.old.size + length
-        (else_if_bytes op (nodes_bytes style (letters_of op) args.now) first_op (nodes_bytes style (letters_of first_op) first_args.now)
-        inner later) }
-{
-    let space = filling.next();
-    let bytes = text_of_else_if(space, op, args, first_op, first_args, inner, later, style);
-    filling.put(bytes);
-}
-
-// An Else that stands where the If stands that begins it: what is behind the If, the terms of the If, and then the one piece of both.
-#[cycle(fill)]
-fn fill_else_if(
-    filling: &mut Filling,
-    op: Op,
-    args: &[Node],
-    first_op: Op,
-    first_args: &[Node],
-    inner: &[Node],
-    rest: &[Node],
-    style: IntegerStyle,
-)
-    requires { EndsIn filling.old.spaces.items (else_if_parts style op args.now first_op first_args.now inner.now rest.now) }
-    ensures fills { Fills (else_if_parts style op args.now first_op first_args.now inner.now rest.now) filling.old.spaces.items
-        filling.new.spaces.items filling.old.pieces.items filling.new.pieces.items }
-    ensures size { filling.new.size ≡ filling.old.size + else_if_size style op args.now first_op first_args.now inner.now rest.now }
-{
-    let before = filling.size;
-    fill_terms(filling, rest, style);
-    let between = filling.size;
-    fill_terms(filling, inner, style);
-    fill_else_if_head(
-        filling,
-        op,
-        args,
-        first_op,
-        first_args,
-        filling.size - between,
-        between - before,
-        style,
-    );
-}
-
-// A form that begins a piece of its own: the terms in it, and then its own bytes before them.
-#[cycle(fill)]
-fn fill_own(filling: &mut Filling, op: Op, body: &[Node], args: &[Node], style: IntegerStyle)
-    requires { EndsIn filling.old.spaces.items (own_parts style op args.now body.now) }
-    ensures fills { Fills (own_parts style op args.now body.now) filling.old.spaces.items filling.new.spaces.items filling.old.pieces.items
-        filling.new.pieces.items }
-    ensures size { filling.new.size ≡ filling.old.size + length (container_bytes style [] op args.now body.now) }
+    requires ends { EndsIn filling.old.spaces.items (own_parts style op args.now body.now later) }
+    requires later { later ≤ filling.old.size }
+    ensures fills { Fills (own_parts style op args.now body.now later) filling.old.spaces.items filling.new.spaces.items
+        filling.old.pieces.items filling.new.pieces.items }
+    ensures size { filling.new.size ≡ filling.old.size + length (container_bytes style op args.now body.now later) }
 {
     let before = filling.size;
     fill_terms(filling, body, style);
     let size = filling.size - before;
-    fill_head(filling, op, args, size, style);
+    fill_head(filling, op, args, size, later, style);
 }
 
-// A form whose body is a list of terms.
+// The bytes of a term's pieces, of which its own come last, before so many bytes of its run.
 #[cycle(fill)]
-fn fill_container(
-    filling: &mut Filling,
-    place: Place,
-    op: Op,
-    body: &[Node],
-    args: &[Node],
-    style: IntegerStyle,
-)
-    requires { EndsIn filling.old.spaces.items (map bytes_of (container_pieces style [] place op args.now body.now)) }
-    ensures fills { Fills (map bytes_of (container_pieces style [] place op args.now body.now)) filling.old.spaces.items
+fn fill_term(filling: &mut Filling, node: &Node, later: usize, style: IntegerStyle)
+    requires ends { EndsIn filling.old.spaces.items (map bytes_of (term_pieces style [] later node.now.place node.now.term)) }
+    requires later { later ≤ filling.old.size }
+    ensures fills { Fills (map bytes_of (term_pieces style [] later node.now.place node.now.term)) filling.old.spaces.items
         filling.new.spaces.items filling.old.pieces.items filling.new.pieces.items }
-    ensures size { filling.new.size ≡ filling.old.size + length (container_bytes style [] op args.now body.now) }
-{
-    if is_else_if(place, op, body) {
-        fill_opened(filling, place, op, body, args, style);
-    } else {
-        fill_own(filling, op, body, args, style);
-    }
-}
-
-// An Else that stands where the If stands that begins it.
-#[cycle(fill)]
-fn fill_opened(
-    filling: &mut Filling,
-    place: Place,
-    op: Op,
-    body: &[Node],
-    args: &[Node],
-    style: IntegerStyle,
-)
-    requires opens { is_else_if_form place op body.now ≡ true }
-    requires ends { EndsIn filling.old.spaces.items (map bytes_of (container_pieces style [] place op args.now body.now)) }
-    ensures fills { Fills (map bytes_of (container_pieces style [] place op args.now body.now)) filling.old.spaces.items
-        filling.new.spaces.items filling.old.pieces.items filling.new.pieces.items }
-    ensures size { filling.new.size ≡ filling.old.size + length (container_bytes style [] op args.now body.now) }
-{
-    match body {
-        [first, rest @ ..] => match &first.term {
-            Term::Form {
-                op: first_op,
-                args: first_args,
-                body: inner,
-            } => fill_else_if(filling, op, args, *first_op, first_args, inner, rest, style),
-            _ => unreachable!(),
-        },
-        [] => unreachable!(),
-    }
-}
-
-// The bytes of a term's pieces, of which its own come last.
-#[cycle(fill)]
-fn fill_term(filling: &mut Filling, node: &Node, style: IntegerStyle)
-    requires { EndsIn filling.old.spaces.items (map bytes_of (term_pieces style [] node.now.place node.now.term)) }
-    ensures fills { Fills (map bytes_of (term_pieces style [] node.now.place node.now.term)) filling.old.spaces.items
-        filling.new.spaces.items filling.old.pieces.items filling.new.pieces.items }
-    ensures size { filling.new.size ≡ filling.old.size + length (term_bytes style node.now.term) }
+    ensures size { filling.new.size ≡ filling.old.size + length (own_bytes style later node.now.term) }
 {
     match &node.term {
         Term::Form { op, args, body } => {
             if holds_terms(*op) {
-                fill_container(filling, node.place, *op, body, args, style);
+                fill_own(filling, *op, body, args, later, style);
             } else {
-                fill_alone(filling, node, style);
+                fill_alone(filling, node, later, style);
             }
         }
-        _ => fill_alone(filling, node, style),
+        _ => fill_alone(filling, node, later, style),
     }
 }
 
@@ -468,12 +330,16 @@ fn fill_terms(filling: &mut Filling, nodes: &[Node], style: IntegerStyle)
     requires { EndsIn filling.old.spaces.items (nodes_parts style nodes.now) }
     ensures fills { Fills (nodes_parts style nodes.now) filling.old.spaces.items filling.new.spaces.items filling.old.pieces.items
         filling.new.pieces.items }
-    ensures size { filling.new.size ≡ filling.old.size + length (nodes_bytes style [] nodes.now) }
+    ensures size { filling.new.size ≡ filling.old.size + length (terms_bytes style nodes.now) }
 {
     let mut left = nodes.len();
+    let mut later: usize = 0;
     while left > 0 {
         left -= 1;
-        fill_term(filling, &nodes[left], style);
+        let node = &nodes[left];
+        let before = filling.size;
+        fill_term(filling, node, later, style);
+        later = run_from(&node.term, filling.size - before, later);
     }
 }
 

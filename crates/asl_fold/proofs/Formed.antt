@@ -152,7 +152,7 @@ module _ (width : Width) (Listed : List (FieldItem UnitName) → Type 0) (Symbol
     formed statement (Container' kind at name body) h = (h.0, h.1, all_formed body h.2)
     formed statement (Scope here at name body) h = (h.0, all_formed body h.1)
     formed statement (If test body) h = (expression_same test ∙ h.0, formed false test h.1, all_formed body h.2)
-    formed statement (ElseIf test body) h = (h.0, expression_same test ∙ h.1, formed false test h.2, all_formed body h.3)
+    formed statement (ElseIf test body) h = (expression_same test ∙ h.0, formed false test h.1, all_formed body h.2)
     formed statement (Switch value cases) h = (h.0, expression_same value ∙ h.1, formed false value h.2, cases_formed cases h.3)
     formed statement (Case value body) h = absurd h
     formed statement (Default body) h = absurd h

@@ -1,4 +1,3 @@
-pub mod Alike
 pub mod Fits
 pub mod Operators
 pub mod Values

@@ -40,7 +40,7 @@ use Rattle.asl_meaning.specs.Meaning.{SourceRun, SpotForm, OfResult, OfInside, N
 use Rattle.asl_meaning.specs.SourceSession.{source_session}
 use Rattle.asl_tree.specs.Formats.{cut}
 use Rattle.asl_fold.specs.Folds.{folded, folded_args, folded_all}
-use Rattle.asl_fold.proofs.Alike.{Alike, alike_done, alike_stop, alike_fault, alike_then, alike_to, alike_act, alike_existing, alike_look, alike_if, alike_valued, alike_on_flow, alike_loop, alike_create, alike_keep, alike_body, alike_activation, alike_use, alike_written, alike_region, alike_buffer_field, same_session}
+use Rattle.else_runs.proofs.Alike.{Alike, alike_done, alike_stop, alike_fault, alike_then, alike_to, alike_act, alike_existing, alike_look, alike_if, alike_valued, alike_on_flow, alike_loop, alike_create, alike_keep, alike_body, alike_activation, alike_use, alike_written, alike_region, alike_buffer_field, same_session}
 use Rattle.asl_fold.proofs.Values.{reduced_other, sized_other, sized_as}
 use Rattle.asl_fold.proofs.Reduced.{reduced_runs, reduced_statement, reduced_spot, sized_runs}
 

@@ -10,7 +10,7 @@ use Rattle.asl_tree.specs.declared.term.Special.TheVariants as Special
 use Rattle.asl_tree.specs.declared.term.Symbolic.TheVariants as Symbolic
 use Rattle.asl_tree.specs.Tree.{At, Tree, Apply, Integer, String, Omitted, Call, Fill, Package, VarPackage, Misshapen, Trees, no_trees, tree, count}
 use Rattle.asl_tree.specs.View.{fits, form, operands_as, targets_of, plain_of, not_of, apply_of, operated, symbol_of, buffer, body_bytes, listed, packaged, counted}
-use Rattle.asl_terms.specs.Plans.{Plan, a_name, a_unit, a_call, a_form, Plans, no_plans, plan}
+use Rattle.term_plans.specs.Plans.{Plan, a_name, a_unit, a_call, a_form, Plans, no_plans, plan}
 use Rattle.asl_prints.specs.Nodes.{none_in}
 use Rattle.asl_prints.specs.Fits.{are, expresses}
 use Rattle.asl_formats.specs.Bare.{nowhere, bare, bare_all}

@@ -40,35 +40,35 @@ use Rattle.asl_meaning.specs.Meaning.{SourceRun, SpotForm, OfResult, OfInside, N
 use Rattle.asl_meaning.specs.SourceSession.{source_session}
 use Rattle.asl_tree.specs.Formats.{cut}
 use Rattle.asl_prints.specs.Forms.{followed, optional, while_tree, for_trees, print_tree, is_expression, is_steppable, is_filled, have_far_continue, spread, formed, formed_args, formed_all}
-use Rattle.asl_formats.proofs.Alike.{Alike, alike_done, alike_stop, alike_fault, alike_then, alike_to, alike_act, alike_existing, alike_look, alike_if, alike_valued, alike_on_flow, alike_loop, alike_create, alike_keep, alike_body, alike_activation, alike_use, alike_written, alike_region, alike_buffer_field, same_session}
+use Rattle.else_runs.proofs.Alike.{Alike, alike_done, alike_stop, alike_fault, alike_then, alike_to, alike_act, alike_existing, alike_look, alike_if, alike_valued, alike_on_flow, alike_loop, alike_create, alike_keep, alike_body, alike_activation, alike_use, alike_written, alike_region, alike_buffer_field, same_session}
 use Rattle.asl_formats.proofs.Settling.{Settled, settled_call}
 use Rattle.asl_formats.proofs.Loops.{first_true, skips_case, skips_default, for_same}
 use Rattle.asl_prints.proofs.Prints.{print_same}
 
 module _ (width : Width) (known : Known) where
-  alike_find : (name : Path) (scope : AbsolutePath) → Alike (S.find known name scope) (S.find known name scope)
+  alike_find : (name : Path) (scope : AbsolutePath) → Alike formed_all (S.find known name scope) (S.find known name scope)
   alike_find name scope = alike_existing (λ names. choose (denoted (is_known known) name scope) None (λ path. first_there names (path ∷ [])))
 
-  alike_found : (name : Path) (scope : AbsolutePath) → Alike (S.found known name scope) (S.found known name scope)
+  alike_found : (name : Path) (scope : AbsolutePath) → Alike formed_all (S.found known name scope) (S.found known name scope)
   alike_found name scope = alike_then (alike_find name scope) (λ path. alike_existing (λ names. reached names path))
 
-  alike_sought : (name : Path) (scope : AbsolutePath) → Alike (S.sought known name scope) (S.sought known name scope)
+  alike_sought : (name : Path) (scope : AbsolutePath) → Alike formed_all (S.sought known name scope) (S.sought known name scope)
   alike_sought name scope = alike_look (λ names. choose (choose (denoted (is_known known) name scope) None (λ path. first_there names (path ∷ []))) None (reached names))
 
-  alike_region_at : (name : Path) (scope : AbsolutePath) → Alike (S.region_at known name scope) (S.region_at known name scope)
+  alike_region_at : (name : Path) (scope : AbsolutePath) → Alike formed_all (S.region_at known name scope) (S.region_at known name scope)
   alike_region_at name scope = alike_then (alike_found name scope) (λ e. alike_done e.0)
 
-  alike_register_at : (name : Path) (scope : AbsolutePath) → Alike (S.register_at known name scope) (S.register_at known name scope)
+  alike_register_at : (name : Path) (scope : AbsolutePath) → Alike formed_all (S.register_at known name scope) (S.register_at known name scope)
   alike_register_at name scope = alike_then (alike_found name scope) (λ e. alike_act (register_of e))
 
   abbrev leads : AbsolutePath → Path → SourceRun AbsolutePath
   leads scope name = S.region_at known name scope
 
-  alike_connect : (to : Connected) (scope : AbsolutePath) → Alike (connect (leads scope) to) (connect (leads scope) to)
+  alike_connect : (to : Connected) (scope : AbsolutePath) → Alike formed_all (connect (leads scope) to) (connect (leads scope) to)
   alike_connect (ToName at name) scope = alike_then (alike_region_at name scope) (λ path. alike_done (ToObject path))
   alike_connect (ToBytes bytes) scope = alike_then (alike_act (resource_of (length bytes) bytes)) (λ bytes. alike_done (ToResource bytes))
 
-  alike_units : (unit : Extent → FieldUnit) (scope : AbsolutePath) (c : Cursor) (items : List (FieldItem UnitName)) → Alike (create_units (leads scope) unit scope c items) (create_units (leads scope) unit scope c items)
+  alike_units : (unit : Extent → FieldUnit) (scope : AbsolutePath) (c : Cursor) (items : List (FieldItem UnitName)) → Alike formed_all (create_units (leads scope) unit scope c items) (create_units (leads scope) unit scope c items)
   alike_units unit scope c [] = alike_done (Normal false)
   alike_units unit scope c (UnitItem name bits ∷ items) =
       alike_then (alike_create (name.segment ∷ scope) (UnitObject (unit (record { at = c.at; bits = bits; flags = c.flags; link = c.link })))) (λ u. alike_units unit scope (behind_bits c bits) items)
@@ -77,78 +77,78 @@ module _ (width : Width) (known : Known) where
   alike_units unit scope c (AccessItem access attribute count ∷ items) = alike_units unit scope (accessed c access attribute (length_or_none count)) items
   alike_units unit scope c (ConnectionItem to ∷ items) = alike_then (alike_connect to scope) (λ x. alike_units unit scope (connected_to c x) items)
 
-  alike_size : {m m' : SourceRun Flow} → Alike m m' → Alike (S.size_by width known m) (S.size_by width known m')
+  alike_size : {m m' : SourceRun Flow} → Alike formed_all m m' → Alike formed_all (S.size_by width known m) (S.size_by width known m')
   alike_size h = alike_then (alike_valued h) (λ v. alike_act (number_of width v))
 
-  alike_named_place : (name : Path) (scope : AbsolutePath) → Alike (S.place_of_name width known name scope) (S.place_of_name width known name scope)
+  alike_named_place : (name : Path) (scope : AbsolutePath) → Alike formed_all (S.place_of_name width known name scope) (S.place_of_name width known name scope)
   alike_named_place name scope = alike_then (alike_found name scope) (λ e. alike_done (if_data e.1 (Some (Named e.0)) None))
 
   -- the place of an expression's data
-  alike_place : (t : Tree) (scope : AbsolutePath) → Alike (S.place_by width known t scope) (S.place_by width known (formed t) scope)
+  alike_place : (t : Tree) (scope : AbsolutePath) → Alike formed_all (S.place_by width known t scope) (S.place_by width known (formed t) scope)
   alike_place (InSlot slot) scope = alike_then (alike_act (slot_here slot)) (λ place. alike_done (Some place))
   alike_place (Use at name) scope = alike_named_place name scope
   alike_place (Call at name args) scope = alike_named_place name scope
   alike_place _ scope = alike_done None
 
-  alike_used : (t : Tree) (scope : AbsolutePath) → Alike (S.used_by width known t scope) (S.used_by width known (formed t) scope)
+  alike_used : (t : Tree) (scope : AbsolutePath) → Alike formed_all (S.used_by width known t scope) (S.used_by width known (formed t) scope)
   alike_used (Use at name) scope = alike_then (alike_found name scope) (λ e. alike_done (OfSpot (At (Named e.0))))
   alike_used _ scope = alike_stop Broken
 
-  alike_raw : (t : Tree) → Alike (S.raw_by width known t) (S.raw_by width known (formed t))
+  alike_raw : (t : Tree) → Alike formed_all (S.raw_by width known t) (S.raw_by width known (formed t))
   alike_raw (Raw size number) = alike_done (OfNumber number)
   alike_raw _ = alike_stop Broken
 
   -- an operand as its letter asks
-  alike_letter : (letter : Letter) (t : Tree) (scope : AbsolutePath) {m m' : SourceRun Flow} {spot spot' : SourceRun Spot} → Alike m m' → Alike spot spot' → Alike (S.operand_by width known letter t m spot scope) (S.operand_by width known letter (formed t) m' spot' scope)
+  alike_letter : (letter : Letter) (t : Tree) (scope : AbsolutePath) {m m' : SourceRun Flow} {spot spot' : SourceRun Spot} → Alike formed_all m m' → Alike formed_all spot spot' → Alike formed_all (S.operand_by width known letter t m spot scope) (S.operand_by width known letter (formed t) m' spot' scope)
   alike_letter Valued t scope hm hs = alike_then (alike_valued hm) (λ v. alike_done (OfValue v))
   alike_letter Kept t scope hm hs = alike_then (alike_place t scope) (λ place. alike_then (alike_valued hm) (λ v. alike_done (OfKept place v)))
   alike_letter Placed t scope hm hs = alike_then hs (λ p. alike_done (OfSpot p))
   alike_letter Used t scope hm hs = alike_used t scope
   alike_letter (L.Raw size) t scope hm hs = alike_raw t
 
-  alike_spot_form : (form : SpotForm) {result result' : SourceRun Flow} {inside inside' : SourceRun Value} → Alike result result' → Alike inside inside' → Alike (S.spot_by width known form result inside) (S.spot_by width known form result' inside')
+  alike_spot_form : (form : SpotForm) {result result' : SourceRun Flow} {inside inside' : SourceRun Value} → Alike formed_all result result' → Alike formed_all inside inside' → Alike formed_all (S.spot_by width known form result inside) (S.spot_by width known form result' inside')
   alike_spot_form OfResult hr hi = alike_then (alike_valued hr) (λ v. alike_act (spot_in v))
   alike_spot_form OfInside hr hi = alike_then hi (λ v. alike_act (spot_in v))
   alike_spot_form NoSpot hr hi = alike_stop Broken
 
   -- the place of CondRefOf
-  alike_cond : (t : Tree) (scope : AbsolutePath) {spot spot' : SourceRun Spot} → Alike spot spot' → Alike (S.cond_by width known t spot scope) (S.cond_by width known (formed t) spot' scope)
+  alike_cond : (t : Tree) (scope : AbsolutePath) {spot spot' : SourceRun Spot} → Alike formed_all spot spot' → Alike formed_all (S.cond_by width known t spot scope) (S.cond_by width known (formed t) spot' scope)
   alike_cond (Use at name) scope h = alike_then (alike_sought name scope) (λ o. alike_done (choose o None (λ e. Some (At (Named e.0)))))
   alike_cond _ scope h = alike_then h (λ p. alike_done (Some p))
 
   -- an element of a Package
-  alike_element : (t : Tree) (scope : AbsolutePath) {m m' : SourceRun Flow} → Alike m m' → Alike (S.element_by width known t m scope) (S.element_by width known (formed t) m' scope)
+  alike_element : (t : Tree) (scope : AbsolutePath) {m m' : SourceRun Flow} → Alike formed_all m m' → Alike formed_all (S.element_by width known t m scope) (S.element_by width known (formed t) m' scope)
   alike_element (Use at name) scope h = alike_done (Reference (Named (element_path (is_known known) name scope)))
   alike_element _ scope h = alike_valued h
 
-  alike_plain : (op : Plain) {ops ops' : SourceRun (List Operand)} {into into' : List Value → SourceRun (Unit {0})} → Alike ops ops' → ((rs : List Value) → Alike (into rs) (into' rs)) → Alike (S.apply_with width op ops into) (S.apply_with width op ops' into')
+  alike_plain : (op : Plain) {ops ops' : SourceRun (List Operand)} {into into' : List Value → SourceRun (Unit {0})} → Alike formed_all ops ops' → ((rs : List Value) → Alike formed_all (into rs) (into' rs)) → Alike formed_all (S.apply_with width op ops into) (S.apply_with width op ops' into')
   alike_plain op ho ht = alike_then ho (λ os. alike_then (alike_act (act_of op width os)) (λ rs. alike_then (ht rs) (λ u. alike_done (last_of rs))))
 
   -- whether a value is equal to another
-  alike_equals : (v : Value) {m m' : SourceRun Value} → Alike m m' → Alike (S.equals width known v m) (S.equals width known v m')
+  alike_equals : (v : Value) {m m' : SourceRun Value} → Alike formed_all m m' → Alike formed_all (S.equals width known v m) (S.equals width known v m')
   alike_equals v h =
       alike_then (alike_size (alike_plain (Plain.Number IntOp.LEqual) (alike_then (alike_done v) (λ v. alike_then h (λ w. alike_done (OfValue v ∷ OfValue w ∷ [])))) (λ rs. alike_done tt))) (λ n. alike_done (is_true n))
 
-  alike_leave : (f : Flow) → Alike (leave_switch f) (leave_switch f)
+  alike_leave : (f : Flow) → Alike formed_all (leave_switch f) (leave_switch f)
   alike_leave O.Continue = alike_done O.Continue
   alike_leave (O.Return v) = alike_done (O.Return v)
   alike_leave _ = alike_done (Normal false)
 
-  alike_last : (n : ℕ) {spot spot' : SourceRun Spot} → Alike spot spot' → (rs : List Value) → Alike (store_last width n spot rs) (store_last width n spot' rs)
+  alike_last : (n : ℕ) {spot spot' : SourceRun Spot} → Alike formed_all spot spot' → (rs : List Value) → Alike formed_all (store_last width n spot rs) (store_last width n spot' rs)
   alike_last zero h rs = alike_done tt
   alike_last (suc n) h [] = alike_fault WrongType
   alike_last (suc zero) h (v ∷ rs) = alike_then h (λ p. alike_act (store width p v))
   alike_last (suc (suc n)) h (v ∷ rs) = alike_last (suc n) h rs
 
-  alike_operate : (op : Plain) {ops ops' : SourceRun (List Operand)} {spot spot' : SourceRun Spot} → Alike ops ops' → Alike spot spot' →
-      Alike (S.apply_with width op ops (store_last width (row_of op).targets spot)) (S.apply_with width op ops' (store_last width (row_of op).targets spot'))
+  alike_operate : (op : Plain) {ops ops' : SourceRun (List Operand)} {spot spot' : SourceRun Spot} → Alike formed_all ops ops' → Alike formed_all spot spot' →
+      Alike formed_all (S.apply_with width op ops (store_last width (row_of op).targets spot)) (S.apply_with width op ops' (store_last width (row_of op).targets spot'))
   alike_operate op ho hs = alike_plain op ho (λ rs. alike_last (row_of op).targets hs rs)
 
-  alike_text : {m m' : SourceRun Flow} → Alike m m' → Alike (S.text_by width known m) (S.text_by width known m')
+  alike_text : {m m' : SourceRun Flow} → Alike formed_all m m' → Alike formed_all (S.text_by width known m) (S.text_by width known m')
   alike_text h = alike_then (alike_valued h) (λ v. alike_act (and_then (data_of width v) (λ datum. give (to_string width datum))))
 
-  alike_assign : (o : Option Plain) {ops ops' : List Letter → SourceRun (List Operand)} {value value' : SourceRun Value} {spot spot' : SourceRun Spot} → ((letters : List Letter) → Alike (ops letters) (ops' letters)) → Alike value value' → Alike spot spot' →
-      Alike (assign_with width o ops value spot) (assign_with width o ops' value' spot')
+  alike_assign : (o : Option Plain) {ops ops' : List Letter → SourceRun (List Operand)} {value value' : SourceRun Value} {spot spot' : SourceRun Spot} → ((letters : List Letter) → Alike formed_all (ops letters) (ops' letters)) → Alike formed_all value value' → Alike formed_all spot spot' →
+      Alike formed_all (assign_with width o ops value spot) (assign_with width o ops' value' spot')
   alike_assign (Some op) ho hv hs = alike_operate op (ho (row_of op).operands) hs
   alike_assign None ho hv hs = alike_plain (Plain.Data DataOp.Store) (alike_then hv (λ v. alike_then hs (λ p. alike_done (OfValue v ∷ OfSpot p ∷ [])))) (λ rs. alike_done tt)
 
@@ -157,11 +157,11 @@ target_same (Operated op args) = refl
 target_same t = refl
 
 -- a term that may be left out
-alike_unless : (t : Tree) {m m' : SourceRun Flow} → Alike m m' → Alike (unless_omitted t m) (unless_omitted (formed t) m')
+alike_unless : (t : Tree) {m m' : SourceRun Flow} → Alike formed_all m m' → Alike formed_all (unless_omitted t m) (unless_omitted (formed t) m')
 alike_unless Omitted h = alike_done (Normal false)
 alike_unless t h = h
 
-alike_step : (f : Flow) {m m' : SourceRun Flow} → Alike m m' → Alike (then_step f m) (then_step f m')
+alike_step : (f : Flow) {m m' : SourceRun Flow} → Alike formed_all m m' → Alike formed_all (then_step f m) (then_step f m')
 alike_step O.Break h = alike_done O.Break
 alike_step (O.Return v) h = alike_done (O.Return v)
 alike_step (Normal d) h = h
@@ -226,12 +226,12 @@ module _ (width : Width) (known : Known) (turns : ℕ) (call : AbsolutePath → 
       by_fit false e = refl
   spread_same t rest scope due = refl
 
-module _ (width : Width) (known : Known) (turns : ℕ) (call : AbsolutePath → List Value → SourceRun Flow) (calls : (path : AbsolutePath) (args : List Value) → Alike (call path args) (call path args)) (settled : (path : AbsolutePath) (args : List Value) → Settled (call path args)) where
-  alike_created : (path : AbsolutePath) (object : Object) → Alike (then_run (create path object) (λ u. done (Normal false))) (then_run (create path object) (λ u. done (Normal false)))
+module _ (width : Width) (known : Known) (turns : ℕ) (call : AbsolutePath → List Value → SourceRun Flow) (calls : (path : AbsolutePath) (args : List Value) → Alike formed_all (call path args) (call path args)) (settled : (path : AbsolutePath) (args : List Value) → Settled (call path args)) where
+  alike_created : (path : AbsolutePath) (object : Object) → Alike formed_all (then_run (create path object) (λ u. done (Normal false))) (then_run (create path object) (λ u. done (Normal false)))
   alike_created path object = alike_then (alike_create path object) (λ u. alike_done (Normal false))
 
   mutual
-    alike : (t : Tree) (scope : AbsolutePath) (due : Bool) → Alike (S.run width known turns call t scope due) (S.run width known turns call (formed t) scope due)
+    alike : (t : Tree) (scope : AbsolutePath) (due : Bool) → Alike formed_all (S.run width known turns call t scope due) (S.run width known turns call (formed t) scope due)
     alike (Integer number) scope due = alike_done (Gives (Data (V.Integer (wrapped width number))))
     alike (Constant literal) scope due = alike_done (Gives (Data (V.Integer (literal_number width literal))))
     alike (String text) scope due = alike_done (Gives (Data (V.String text)))
@@ -301,7 +301,7 @@ module _ (width : Width) (known : Known) (turns : ℕ) (call : AbsolutePath → 
     alike (Fill bytes) scope due = alike_stop Broken
     alike Misshapen scope due = alike_stop Broken
 
-    alike_spot : (t : Tree) (scope : AbsolutePath) → Alike (S.spot width known turns call t scope) (S.spot width known turns call (formed t) scope)
+    alike_spot : (t : Tree) (scope : AbsolutePath) → Alike formed_all (S.spot width known turns call t scope) (S.spot width known turns call (formed t) scope)
     alike_spot Omitted scope = alike_done Nowhere
     alike_spot Debug scope = alike_done DebugObject
     alike_spot (InSlot slot) scope = alike_then (alike_act (slot_here slot)) (λ place. alike_done (At place))
@@ -313,12 +313,12 @@ module _ (width : Width) (known : Known) (turns : ℕ) (call : AbsolutePath → 
         (alike_operate width known op (alike_operands (row_of op).operands args scope) (alike_done Nowhere)) (alike_first args scope)
     alike_spot _ scope = alike_stop Broken
 
-    alike_inner : (letters : List Letter) (value : Tree) (scope : AbsolutePath) → Alike (S.inner_operands width known turns call letters value scope) (S.inner_operands width known turns call letters (formed value) scope)
+    alike_inner : (letters : List Letter) (value : Tree) (scope : AbsolutePath) → Alike formed_all (S.inner_operands width known turns call letters value scope) (S.inner_operands width known turns call letters (formed value) scope)
     alike_inner letters (Operated symbol args) scope = alike_operands letters args scope
     alike_inner letters value scope = alike_stop Broken
 
     -- arguments as texts
-    alike_filled : (texts : List (List ℕ)) (ts : Trees) (scope : AbsolutePath) → Alike (S.filled width known turns call texts ts scope) (S.filled width known turns call texts (formed_args ts) scope)
+    alike_filled : (texts : List (List ℕ)) (ts : Trees) (scope : AbsolutePath) → Alike formed_all (S.filled width known turns call texts ts scope) (S.filled width known turns call texts (formed_args ts) scope)
     alike_filled [] no_trees scope = alike_done []
     alike_filled [] (tree t ts) scope = alike_stop Broken
     alike_filled (text ∷ texts) no_trees scope = alike_stop Broken
@@ -326,18 +326,18 @@ module _ (width : Width) (known : Known) (turns : ℕ) (call : AbsolutePath → 
         alike_then (alike_text width known (alike t scope false)) (λ first. alike_then (alike_filled texts ts scope) (λ rest. alike_done (first ++ (text ++ rest))))
 
     -- the value of a Case
-    alike_hits : (t : Tree) (v : Value) (scope : AbsolutePath) (alone alone' : SourceRun Bool) → Alike alone alone' → Alike (S.hits width known turns call t alone v scope) (S.hits width known turns call (formed t) alone' v scope)
+    alike_hits : (t : Tree) (v : Value) (scope : AbsolutePath) (alone alone' : SourceRun Bool) → Alike formed_all alone alone' → Alike formed_all (S.hits width known turns call t alone v scope) (S.hits width known turns call (formed t) alone' v scope)
     alike_hits (Package count members) v scope alone alone' h = alike_any members v scope
     alike_hits (VarPackage count members) v scope alone alone' h = alike_any members v scope
     alike_hits _ v scope alone alone' h = h
 
-    alike_any : (ts : Trees) (v : Value) (scope : AbsolutePath) → Alike (S.hits_any width known turns call ts v scope) (S.hits_any width known turns call (formed_args ts) v scope)
+    alike_any : (ts : Trees) (v : Value) (scope : AbsolutePath) → Alike formed_all (S.hits_any width known turns call ts v scope) (S.hits_any width known turns call (formed_args ts) v scope)
     alike_any no_trees v scope = alike_done false
     alike_any (tree t ts) v scope =
         alike_then (alike_equals width known v (alike_valued (alike t scope false))) (λ first. alike_then (alike_any ts v scope) (λ others. alike_done (first || others)))
 
     -- the Cases of a Switch, and its Default
-    alike_cases : (ts : Trees) (v : Value) (scope : AbsolutePath) (m m' : SourceRun Flow) → Alike m m' → Alike (S.run_cases width known turns call ts v scope m) (S.run_cases width known turns call (formed_all ts) v scope m')
+    alike_cases : (ts : Trees) (v : Value) (scope : AbsolutePath) (m m' : SourceRun Flow) → Alike formed_all m m' → Alike formed_all (S.run_cases width known turns call ts v scope m) (S.run_cases width known turns call (formed_all ts) v scope m')
     alike_cases no_trees v scope m m' h = h
     alike_cases (tree (Case value body) cases) v scope m m' h =
         alike_then (alike_hits value v scope _ _ (alike_equals width known v (alike_valued (alike value scope false)))) (λ hit. alike_if hit (alike_all body scope false) (alike_cases cases v scope m m' h))
@@ -347,7 +347,7 @@ module _ (width : Width) (known : Known) (turns : ℕ) (call : AbsolutePath → 
         alike_to (print_cases width known turns call settled (formed place) format (formed_args args) (formed_all cases) v scope m') (alike_cases cases v scope m m' h)
     alike_cases (tree _ cases) v scope m m' h = alike_cases cases v scope m m' h
 
-    alike_default : (ts : Trees) (scope : AbsolutePath) → Alike (S.run_default width known turns call ts scope) (S.run_default width known turns call (formed_all ts) scope)
+    alike_default : (ts : Trees) (scope : AbsolutePath) → Alike formed_all (S.run_default width known turns call ts scope) (S.run_default width known turns call (formed_all ts) scope)
     alike_default no_trees scope = alike_done (Normal false)
     alike_default (tree (Default body) cases) scope = alike_all body scope false
     alike_default (tree (For start test step body) cases) scope =
@@ -356,37 +356,37 @@ module _ (width : Width) (known : Known) (turns : ℕ) (call : AbsolutePath → 
         alike_to (print_default width known turns call settled (formed place) format (formed_args args) (formed_all cases) scope) (alike_default cases scope)
     alike_default (tree _ cases) scope = alike_default cases scope
 
-    alike_operands : (letters : List Letter) (ts : Trees) (scope : AbsolutePath) → Alike (S.operands width known turns call letters ts scope) (S.operands width known turns call letters (formed_args ts) scope)
+    alike_operands : (letters : List Letter) (ts : Trees) (scope : AbsolutePath) → Alike formed_all (S.operands width known turns call letters ts scope) (S.operands width known turns call letters (formed_args ts) scope)
     alike_operands [] no_trees scope = alike_done []
     alike_operands [] (tree t ts) scope = alike_stop Broken
     alike_operands (letter ∷ letters) no_trees scope = alike_stop Broken
     alike_operands (letter ∷ letters) (tree t ts) scope =
         alike_then (alike_letter width known letter t scope (alike t scope false) (alike_spot t scope)) (λ o. alike_then (alike_operands letters ts scope) (λ os. alike_done (o ∷ os)))
 
-    alike_stores : (ts : Trees) (rs : List Value) (scope : AbsolutePath) → Alike (S.store_all width known turns call ts rs scope) (S.store_all width known turns call (formed_args ts) rs scope)
+    alike_stores : (ts : Trees) (rs : List Value) (scope : AbsolutePath) → Alike formed_all (S.store_all width known turns call ts rs scope) (S.store_all width known turns call (formed_args ts) rs scope)
     alike_stores no_trees rs scope = alike_done tt
     alike_stores (tree t ts) [] scope = alike_fault WrongType
     alike_stores (tree t ts) (r ∷ rs) scope = alike_then (alike_spot t scope) (λ p. alike_then (alike_act (store width p r)) (λ u. alike_stores ts rs scope))
 
-    alike_first : (ts : Trees) (scope : AbsolutePath) → Alike (S.first_value width known turns call ts scope) (S.first_value width known turns call (formed_args ts) scope)
+    alike_first : (ts : Trees) (scope : AbsolutePath) → Alike formed_all (S.first_value width known turns call ts scope) (S.first_value width known turns call (formed_args ts) scope)
     alike_first no_trees scope = alike_stop Broken
     alike_first (tree t ts) scope = alike_valued (alike t scope false)
 
-    alike_values : (ts : Trees) (scope : AbsolutePath) → Alike (S.values width known turns call ts scope) (S.values width known turns call (formed_args ts) scope)
+    alike_values : (ts : Trees) (scope : AbsolutePath) → Alike formed_all (S.values width known turns call ts scope) (S.values width known turns call (formed_args ts) scope)
     alike_values no_trees scope = alike_done []
     alike_values (tree t ts) scope = alike_then (alike_valued (alike t scope false)) (λ v. alike_then (alike_values ts scope) (λ vs. alike_done (v ∷ vs)))
 
-    alike_elements : (ts : Trees) (scope : AbsolutePath) → Alike (S.elements width known turns call ts scope) (S.elements width known turns call (formed_args ts) scope)
+    alike_elements : (ts : Trees) (scope : AbsolutePath) → Alike formed_all (S.elements width known turns call ts scope) (S.elements width known turns call (formed_args ts) scope)
     alike_elements no_trees scope = alike_done no_elements
     alike_elements (tree t ts) scope = alike_then (alike_element width known t scope (alike t scope false)) (λ v. alike_then (alike_elements ts scope) (λ es. alike_done (element v es)))
 
-    pub alike_all : (ts : Trees) (scope : AbsolutePath) (due : Bool) → Alike (S.run_all width known turns call ts scope due) (S.run_all width known turns call (formed_all ts) scope due)
+    pub alike_all : (ts : Trees) (scope : AbsolutePath) (due : Bool) → Alike formed_all (S.run_all width known turns call ts scope due) (S.run_all width known turns call (formed_all ts) scope due)
     alike_all no_trees scope due = alike_done (Normal false)
     alike_all (tree t ts) scope due =
         alike_to (spread_same width known turns call settled (formed t) (formed_all ts) scope due) (alike_then (alike t scope due) (λ f. alike_on_flow f (λ d. alike_all ts scope d)))
 
 module _ (width : Width) (known : Known) (turns : ℕ) where
-  alike_call : (depth : ℕ) (path : AbsolutePath) (args : List Value) → Alike (S.call_method width known turns depth path args) (S.call_method width known turns depth path args)
+  alike_call : (depth : ℕ) (path : AbsolutePath) (args : List Value) → Alike formed_all (S.call_method width known turns depth path args) (S.call_method width known turns depth path args)
   alike_call zero path args = alike_stop Unfinished
   alike_call (suc depth) path args = alike_body (λ body. alike_activation args (alike_all width known turns (S.call_method width known turns depth) (alike_call depth) (settled_call width known turns depth) body path false)) path
 

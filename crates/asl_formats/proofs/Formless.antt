@@ -12,7 +12,7 @@ use Rattle.asl_tree.specs.declared.term.Term.{Term}
 use Rattle.asl_tree.specs.declared.term.Term as D
 use Rattle.asl_tree.specs.Tree.{At, Call, Trees, tree}
 use Rattle.asl_tree.specs.View.{form, tree_of, row_trees, trees_of}
-use Rattle.asl_terms.specs.Plans.{Plan, a_call, a_form, Plans, no_plans, plan, plan_of, row_plans, plans_of}
+use Rattle.term_plans.specs.Plans.{Plan, a_call, a_form, Plans, no_plans, plan, plan_of, row_plans, plans_of}
 use Rattle.asl_prints.specs.Forms.{formed, formed_all, formed_args, spread}
 use Rattle.asl_formats.specs.Pass.{formed_body}
 use Rattle.asl_prints.specs.Nodes.{has_terms}

@@ -1,6 +1,5 @@
 pub mod Loops
 pub mod Bare
-pub mod Alike
 pub mod Formed
 pub mod RenewNumbers
 pub mod PlanSteps

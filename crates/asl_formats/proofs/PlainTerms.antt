@@ -8,8 +8,8 @@ use Rattle.asl_tree.specs.declared.term.Term.{Term}
 use Rattle.asl_tree.specs.declared.term.Term as D
 use Rattle.asl_tree.specs.Tree.{At}
 use Rattle.asl_tree.specs.View.{tree_of, trees_of}
-use Rattle.asl_terms.specs.Plans.{Plans, a_call, a_form, plan_of, plans_of}
-use Rattle.asl_terms.proofs.Plans.{plan_form, plan_call}
+use Rattle.term_plans.specs.Plans.{Plans, a_call, a_form, plan_of, plans_of}
+use Rattle.term_plans.proofs.Plans.{plan_form, plan_call}
 use Rattle.asl_formats.specs.Bare.{nowhere}
 use Rattle.asl_prints.specs.Forms as F
 use Rattle.asl_formats.specs.Plain.{is_package, is_plain, are_plain}

@@ -12,7 +12,7 @@ use Rattle.asl_tree.specs.declared.term.Control.TheVariants as Control
 use Rattle.asl_tree.specs.declared.term.Special.TheVariants as Special
 use Rattle.asl_tree.specs.Tree.{At, Tree, String, Debug, Omitted, Apply, For, Print, Continue, Trees, no_trees, tree}
 use Rattle.asl_tree.specs.View.{form, operands_as}
-use Rattle.asl_terms.specs.Plans.{Plan, a_text, debug, omitted, a_name, a_unit, a_call, a_form, Plans, no_plans, plan, join}
+use Rattle.term_plans.specs.Plans.{Plan, a_text, debug, omitted, a_name, a_unit, a_call, a_form, Plans, no_plans, plan, join}
 use Rattle.asl_prints.specs.Forms as F
 use Rattle.asl_formats.specs.Steps.{stepped_body, is_next}
 use Rattle.asl_prints.specs.Nodes as N

@@ -9,8 +9,8 @@ use Rattle.asl_tree.specs.declared.term.Term.{Term}
 use Rattle.asl_tree.specs.declared.term.Term as D
 use Rattle.asl_tree.specs.Tree.{Trees, no_trees, tree}
 use Rattle.asl_tree.specs.View.{trees_of}
-use Rattle.asl_terms.specs.Plans.{Plan, a_form, Plans, no_plans, plan, join, plan_of, plans_of}
-use Rattle.asl_terms.proofs.Plans.{plan_form}
+use Rattle.term_plans.specs.Plans.{Plan, a_form, Plans, no_plans, plan, join, plan_of, plans_of}
+use Rattle.term_plans.proofs.Plans.{plan_form}
 use Rattle.asl_formats.specs.Steps.{CanStep, IsLoop}
 use Rattle.asl_prints.specs.Plans.{optional, stepped_all, while_plan, is_steppable, spread}
 use Rattle.asl_formats.specs.PlanPass.{for_plans}

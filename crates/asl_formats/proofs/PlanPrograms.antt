@@ -12,8 +12,8 @@ use Rattle.asl_tree.specs.declared.term.Term as D
 use Rattle.asl_tree.specs.declared.term.Term.TheVariants as V
 use Rattle.asl_tree.specs.Tree.{At, Tree, String, Trees, no_trees, tree}
 use Rattle.asl_tree.specs.View.{tree_of, trees_of}
-use Rattle.asl_terms.specs.Plans.{Plan, a_text, debug, a_call, a_form, Plans, no_plans, plan, join, plan_of, plans_of}
-use Rattle.asl_terms.proofs.Plans.{plan_form, plan_call}
+use Rattle.term_plans.specs.Plans.{Plan, a_text, debug, a_call, a_form, Plans, no_plans, plan, join, plan_of, plans_of}
+use Rattle.term_plans.proofs.Plans.{plan_form, plan_call}
 use Rattle.asl_prints.specs.Forms as F
 use Rattle.asl_prints.specs.Nodes.{node_tree}
 use Rattle.asl_formats.specs.Stands.{stand_of, form_stand}

@@ -9,8 +9,8 @@ use Rattle.asl_tree.specs.declared.term.Term.{Term}
 use Rattle.asl_tree.specs.declared.term.Term as D
 use Rattle.asl_tree.specs.Tree.{At, Tree, Trees, no_trees, tree}
 use Rattle.asl_tree.specs.View.{form, tree_of, trees_of}
-use Rattle.asl_terms.specs.Plans.{Plan, a_name, a_unit, a_call, a_form, Plans, no_plans, plan, join, plan_of, plans_of}
-use Rattle.asl_terms.proofs.Plans.{plan_form}
+use Rattle.term_plans.specs.Plans.{Plan, a_name, a_unit, a_call, a_form, Plans, no_plans, plan, join, plan_of, plans_of}
+use Rattle.term_plans.proofs.Plans.{plan_form}
 use Rattle.asl_prints.specs.Nodes.{goes_in}
 use Rattle.asl_formats.specs.Steps.{is_next}
 use Rattle.asl_prints.specs.Plans.{stepped, stepped_all, steps_before}

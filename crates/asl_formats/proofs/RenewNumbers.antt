@@ -6,7 +6,7 @@ use Rattle.asl_tree.specs.declared.term.Node.{Node}
 use Rattle.asl_tree.specs.declared.term.Term.{Term}
 use Rattle.asl_tree.specs.declared.term.Term as D
 use Rattle.asl_tree.specs.declared.term.Term.TheVariants as V
-use Rattle.asl_terms.specs.Plans.{plans_of}
+use Rattle.term_plans.specs.Plans.{plans_of}
 use Rattle.asl_prints.specs.Numbers.{anew, numbers_in, numbers_of, number_behind, numbered, next_behind}
 use Rattle.asl_prints.proofs.NodeNumbers.{numbers_form, numbers_call, one_number, numbers_joined, taken_next, no_taken, no_numbers, numbered_joined, behind_joined}
 use Rattle.asl_prints.proofs.PlanNodes.{no_nodes as no_nodes_plans, no_taken as no_taken_plans}

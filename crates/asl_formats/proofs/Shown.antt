@@ -9,8 +9,8 @@ use Rattle.asl_tree.specs.declared.term.Term as D
 use Rattle.asl_tree.specs.Tree.{At, Tree, If, ElseIf, Else, While, Switch, Case, Default, Trees, no_trees, tree}
 use Rattle.asl_tree.specs.View.{form, tree_of, trees_of}
 use Rattle.iasl_messages.specs.declared.place.Place.{Place}
-use Rattle.asl_terms.specs.Plans.{Plan, omitted, Plans, no_plans, plan, plan_of, plans_of}
-use Rattle.asl_terms.proofs.Plans.{plan_form}
+use Rattle.term_plans.specs.Plans.{Plan, omitted, Plans, no_plans, plan, plan_of, plans_of}
+use Rattle.term_plans.proofs.Plans.{plan_form}
 use Rattle.asl_prints.specs.Forms.{followed, optional, stepped, stepped_all, spread}
 use Rattle.asl_prints.specs.Nodes.{goes_in, node_tree}
 use Rattle.asl_formats.specs.Steps.{steps_before, is_next, stepped_body, for_parts, IsLoop}

@@ -2,7 +2,7 @@
 use Rattle.std.specs.Prelude.{List, reverse}
 use Rattle.iasl_messages.specs.declared.place.Place.{Place}
 use Rattle.asl_tree.specs.declared.term.Node.{Node}
-use Rattle.asl_terms.specs.Plans.{Plans, no_plans, plan, join, plans_of}
+use Rattle.term_plans.specs.Plans.{Plans, no_plans, plan, join, plans_of}
 use Rattle.asl_prints.specs.Plans.{optional, while_plan, spread}
 
 -- what stands for a For with these arguments and this body

@@ -2,7 +2,7 @@
 ghost use Rattle.std.specs.Prelude.{◌≡◌, ◌∷◌, [], ◌++◌, ◌||◌, not, true, false, IfOk};
 ghost use Rattle.asl_tree.specs.Tree.{While, no_trees, tree};
 ghost use Rattle.asl_tree.specs.View.{trees_of};
-ghost use Rattle.asl_terms.specs.Plans.{a_form, join, no_plans, plan, plan_of, plans_of};
+ghost use Rattle.term_plans.specs.Plans.{a_form, join, no_plans, plan, plan_of, plans_of};
 ghost use Rattle.asl_formats.specs.Bare.{bare_all, shown};
 ghost use Rattle.asl_prints.specs.Forms.{followed, optional as optional_trees, spread, stepped_all};
 ghost use Rattle.asl_formats.specs.Steps.{for_parts, IsLoop};
@@ -152,8 +152,8 @@ fn stands(alloc: Global, node: &Node, keep: bool, id: u32) -> Result<Vec<Node>, 
 /// What stands for a For (ACPI Specification 6.4, 19.6.51): its start, where it has one, and then a While with its
 /// test, whose body ends with its step. The step stands before each Continue of the For, too. The While has the next
 /// number, and so have the nodes of each copy of the step behind the first, in the order in which they are written; all
-/// other nodes keep theirs. A step that is no expression with nothing but expressions in it, which no source has, is
-/// copied with its numbers.
+/// other nodes keep theirs. A step in which anything stands that is no expression is copied with its numbers; the shape
+/// refuses such a step in a source, but no law says so.
 pub fn for_form(alloc: Global, node: &Node, next_id: u32) -> Result<Vec<Node>, AllocError>
     requires { IsLoop node.now.term }
     ensures trees { IfOk result (λ made. bare_all (trees_of made.items) ≡ bare_all (spread (node_tree node.now) no_trees)) }

@@ -1,6 +1,6 @@
 //! Whether a term is an expression with nothing but expressions in it.
 ghost use Rattle.std.specs.Prelude.{◌≡◌, ◌&&◌, ◌||◌, not};
-ghost use Rattle.asl_terms.specs.Plans.{plan_of, plans_of};
+ghost use Rattle.term_plans.specs.Plans.{plan_of, plans_of};
 ghost use Rattle.asl_formats.specs.Plain.{are_plain as plans_are_plain, is_package as op_is_package, is_plain as plan_is_plain};
 ghost use Rattle.asl_prints.specs.Plans.{expresses};
 

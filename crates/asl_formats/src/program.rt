@@ -2,7 +2,7 @@
 ghost use Rattle.std.specs.Prelude.{◌≡◌, IfOk, OnOk};
 ghost use Rattle.asl_tree.specs.Tree.{At};
 ghost use Rattle.asl_tree.specs.View.{tree_of, trees_of};
-ghost use Rattle.asl_terms.specs.Plans.{join, plan_of, plans_of};
+ghost use Rattle.term_plans.specs.Plans.{join, plan_of, plans_of};
 ghost use Rattle.asl_prints.specs.Forms.{followed, formed, formed_all, formed_args, spread};
 ghost use Rattle.asl_prints.specs.Nodes.{node_tree};
 ghost use Rattle.asl_formats.specs.Pass.{backwards, formed_body as body_formed, spread_all};

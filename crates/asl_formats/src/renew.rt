@@ -1,7 +1,7 @@
 //! Copies of nodes with numbers of their own.
 ghost use Rattle.std.specs.Prelude.{◌≡◌, ◌∷◌, [], ◌++◌, true, IfOk};
 ghost use Rattle.asl_tree.specs.View.{trees_of};
-ghost use Rattle.asl_terms.specs.Plans.{join, plan_of, plans_of};
+ghost use Rattle.term_plans.specs.Plans.{join, plan_of, plans_of};
 ghost use Rattle.asl_formats.specs.Bare.{bare_all};
 ghost use Rattle.asl_prints.specs.Forms.{followed};
 ghost use Rattle.asl_prints.specs.Numbers.{anew, next_behind, number_behind, numbered, numbers_in, numbers_of};
@@ -52,7 +52,7 @@ fn renewed_all(alloc: Global, nodes: &[Node], next: &mut u32) -> Result<Vec<Node
 }
 
 #[cycle(renew)]
-#[tactic(auto, using(asl_terms::proofs::Plans::plan_form, asl_terms::proofs::Plans::plan_call))]
+#[tactic(auto, using(term_plans::proofs::Plans::plan_form, term_plans::proofs::Plans::plan_call))]
 fn renewed_term(alloc: Global, term: &Term, next: &mut u32) -> Result<Term, AllocError>
     ensures plan { IfOk result (λ made. plan_of made ≡ plan_of term.now) }
     ensures numbers { IfOk result (λ made. numbers_in made ≡ numbered next.old (anew (numbers_in term.now))) }

@@ -2,7 +2,7 @@
 ghost use Rattle.std.specs.Prelude.{◌≡◌, ◌∷◌, [], ◌++◌, ◌||◌, not, true, false, if◌then◌else◌, IfOk};
 ghost use Rattle.asl_tree.specs.View.{tree_of, trees_of};
 ghost use Rattle.asl_tree.specs.Tree.{At};
-ghost use Rattle.asl_terms.specs.Plans.{join, plan_of, plans_of};
+ghost use Rattle.term_plans.specs.Plans.{join, plan_of, plans_of};
 ghost use Rattle.asl_formats.specs.Bare.{shown, shown_term};
 ghost use Rattle.asl_prints.specs.Forms.{followed, stepped, stepped_all};
 ghost use Rattle.asl_prints.specs.Nodes.{goes_in as braces_go_in, node_tree};

@@ -1,5 +1,5 @@
 -- A program declares the same with its operators named, and its calls begin alike.
-use Rattle.std.proofs.Common.{◌≡◌, ℕ, zero, suc, Bool, true, false, List, [], ◌∷◌, ◌++◌, Option, Some, None, refl, sym, ap, ◌∙◌, append_assoc, subst, arith}
+use Rattle.std.proofs.Common.{◌≡◌, ℕ, zero, suc, Bool, true, false, List, [], ◌∷◌, ◌++◌, Option, Some, None, refl, sym, ap, ◌∙◌, subst, arith}
 use Rattle.std.proofs.lemmas.Bool.Decides.{nat_tests}
 use Rattle.std.specs.Prelude.{if◌then◌else◌, ◌&&◌, not, nat_eq}
 use Rattle.acpi_values.specs.Paths.{AbsolutePath, is_same_path}
@@ -15,17 +15,11 @@ use Rattle.asl_meaning.specs.Meaning.{spot_form, target_operator}
 use Rattle.acpi_names.specs.Terms.{has_no_targets, is_value, are_values, is_term, are_terms}
 use Rattle.acpi_names.proofs.MentionErrors.{undeclared}
 use Rattle.acpi_names.proofs.Mentions.{right_nil, first_true, second_true}
-use Rattle.asl_lower.specs.Nodes.{given, last_target, assigned, assigned_by, before, named, inner_args, named_args, named_all}
+use Rattle.asl_lower.specs.Nodes.{given, last_target, assigned, assigned_by, named, inner_args, named_all}
 
 pub given_declares : (t : Tree) (scope : AbsolutePath) (d : Declarations) → declare (given t) scope d ≡ declare t scope d
 given_declares Omitted scope d = refl
 given_declares t scope d = refl
-
-before_declares : (t : Tree) (ts : Trees) (scope : AbsolutePath) (d : Declarations) → declare_all (before t ts) scope d ≡ declare_all ts scope (declare t scope d)
-before_declares (ElseIf test body) (tree (Else other) rest) scope d = refl
-before_declares (ElseIf test body) no_trees scope d = refl
-before_declares (ElseIf test body) (tree t rest) scope d = refl
-before_declares t ts scope d = refl
 
 mutual
   pub named_declares : (t : Tree) (scope : AbsolutePath) (d : Declarations) → declare (named t) scope d ≡ declare t scope d
@@ -45,7 +39,7 @@ mutual
   pub all_declare : (ts : Trees) (scope : AbsolutePath) (d : Declarations) → declare_all (named_all ts) scope d ≡ declare_all ts scope d
   all_declare no_trees scope d = refl
   all_declare (tree t ts) scope d =
-      before_declares (named t) (named_all ts) scope d ∙ ap (declare_all (named_all ts) scope) (named_declares t scope d) ∙ all_declare ts scope (declare t scope d)
+      ap (declare_all (named_all ts) scope) (named_declares t scope d) ∙ all_declare ts scope (declare t scope d)
 
 -- the same names are declared
 pub same_declarations : (program : Trees) → declarations (named_all program) ≡ declarations program
@@ -73,7 +67,7 @@ first_append ((Some p, n) ∷ xs) ys path = by_same (is_same_path p path) (first
     by_same true h = refl
     by_same false h = h
 
-pub count_args : (ts : Trees) → count (named_args ts) ≡ count ts
+pub count_args : (ts : Trees) → count (named_all ts) ≡ count ts
 count_args no_trees = refl
 count_args (tree t ts) = ap suc (count_args ts)
 
@@ -166,26 +160,18 @@ module _ (has : AbsolutePath → Bool) (path : AbsolutePath) where
       vs : List (Option AbsolutePath × ℕ)
       vs = calls has value scope d
 
-  before_calls : (t : Tree) (ts : Trees) (scope : AbsolutePath) (d : Declarations) → calls_all has (before t ts) scope d ≡ calls has t scope d ++ calls_all has ts scope (declare t scope d)
-  before_calls (ElseIf test body) (tree (Else other) rest) scope d =
-      ap (λ cs. (calls has (If test body) scope d ++ cs) ++ calls_all has rest scope (declare (Else other) scope (declare (If test body) scope d))) (right_nil (calls_all has other scope (declare (If test body) scope d)))
-      ∙ append_assoc (calls has (If test body) scope d) (calls_all has other scope (declare (If test body) scope d)) _
-  before_calls (ElseIf test body) no_trees scope d = ap (λ cs. cs ++ []) (right_nil (calls has (If test body) scope d))
-  before_calls (ElseIf test body) (tree t rest) scope d = ap (λ cs. cs ++ calls_all has (tree t rest) scope (declare (If test body) scope d)) (right_nil (calls has (If test body) scope d))
-  before_calls t ts scope d = refl
-
   mutual
     value_calls : (t : Tree) → is_value t ≡ true → (scope : AbsolutePath) (d : Declarations) → first_of_all (calls has (named t) scope d) ≡ first_of_all (calls has t scope d)
     value_calls (Call at name args) e scope d =
-        ap (λ n. first_of_all ((denoted has name scope, n) ∷ calls_all has (named_args args) scope d)) (count_args args)
-        ∙ both ((denoted has name scope, count args) ∷ []) (calls_all has (named_args args) scope d) ((denoted has name scope, count args) ∷ []) (calls_all has args scope d) refl (values_calls args e scope d)
+        ap (λ n. first_of_all ((denoted has name scope, n) ∷ calls_all has (named_all args) scope d)) (count_args args)
+        ∙ both ((denoted has name scope, count args) ∷ []) (calls_all has (named_all args) scope d) ((denoted has name scope, count args) ∷ []) (calls_all has args scope d) refl (values_calls args e scope d)
     value_calls (Apply op args targets) e scope d =
         let vs = second_true (has_no_targets (spot_form op) targets) (are_values args && are_values targets) e in
-        both (calls_all has (named_args args) scope d) (calls_all has (named_args targets) scope d) (calls_all has args scope d) (calls_all has targets scope d)
+        both (calls_all has (named_all args) scope d) (calls_all has (named_all targets) scope d) (calls_all has args scope d) (calls_all has targets scope d)
         (values_calls args (first_true (are_values args) (are_values targets) vs) scope d) (values_calls targets (second_true (are_values args) (are_values targets) vs) scope d)
     value_calls (Operated op args) e scope d =
-        ap (λ cs. first_of_all (calls_all has (named_args args) scope d ++ cs)) (none_calls (row_of op).targets scope d)
-        ∙ ap first_of_all (right_nil (calls_all has (named_args args) scope d)) ∙ values_calls args e scope d
+        ap (λ cs. first_of_all (calls_all has (named_all args) scope d ++ cs)) (none_calls (row_of op).targets scope d)
+        ∙ ap first_of_all (right_nil (calls_all has (named_all args) scope d)) ∙ values_calls args e scope d
     value_calls (Assigned target value) e scope d =
         let ht = first_true (is_value target) (is_value value) e in
         let hv = second_true (is_value target) (is_value value) e in
@@ -198,7 +184,7 @@ module _ (has : AbsolutePath → Bool) (path : AbsolutePath) where
     value_calls (Buffer size bytes) e scope d = value_calls size e scope d
     value_calls (Package n elements) e scope d = values_calls elements e scope d
     value_calls (VarPackage size elements) e scope d =
-        both (calls has (named size) scope d) (calls_all has (named_args elements) scope d) (calls has size scope d) (calls_all has elements scope d)
+        both (calls has (named size) scope d) (calls_all has (named_all elements) scope d) (calls has size scope d) (calls_all has elements scope d)
         (value_calls size (first_true (is_value size) (are_values elements) e) scope d) (values_calls elements (second_true (is_value size) (are_values elements) e) scope d)
     value_calls (CondRefOf place target) e scope d =
         both (calls has (named place) scope d) (calls has (named target) scope d) (calls has place scope d) (calls has target scope d)
@@ -226,11 +212,11 @@ module _ (has : AbsolutePath → Bool) (path : AbsolutePath) where
     inner_calls (Operated op args) e some scope d = values_calls args e scope d
     inner_calls _ e some scope d = absurd some
 
-    values_calls : (ts : Trees) → are_values ts ≡ true → (scope : AbsolutePath) (d : Declarations) → first_of_all (calls_all has (named_args ts) scope d) ≡ first_of_all (calls_all has ts scope d)
+    values_calls : (ts : Trees) → are_values ts ≡ true → (scope : AbsolutePath) (d : Declarations) → first_of_all (calls_all has (named_all ts) scope d) ≡ first_of_all (calls_all has ts scope d)
     values_calls no_trees e scope d = refl
     values_calls (tree t ts) e scope d =
-        ap (λ d'. first_of_all (calls has (named t) scope d ++ calls_all has (named_args ts) scope d')) (named_declares t scope d)
-        ∙ both (calls has (named t) scope d) (calls_all has (named_args ts) scope (declare t scope d)) (calls has t scope d) (calls_all has ts scope (declare t scope d))
+        ap (λ d'. first_of_all (calls has (named t) scope d ++ calls_all has (named_all ts) scope d')) (named_declares t scope d)
+        ∙ both (calls has (named t) scope d) (calls_all has (named_all ts) scope (declare t scope d)) (calls has t scope d) (calls_all has ts scope (declare t scope d))
         (value_calls t (first_true (is_value t) (are_values ts) e) scope d) (values_calls ts (second_true (is_value t) (are_values ts) e) scope (declare t scope d))
 
   mutual
@@ -254,7 +240,7 @@ module _ (has : AbsolutePath → Bool) (path : AbsolutePath) where
         (both (calls has (named test) scope d) (calls has (named step) scope d ++ calls_all has (named_all body) scope d) (calls has test scope d) (calls has step scope d ++ calls_all has body scope d) (value_calls test (first_true (is_value test) (is_value step && are_terms body) g) scope d)
         (both (calls has (named step) scope d) (calls_all has (named_all body) scope d) (calls has step scope d) (calls_all has body scope d) (value_calls step (first_true (is_value step) (are_terms body) h) scope d) (list_calls body (second_true (is_value step) (are_terms body) h) scope d)))
     term_calls (Print place format args) e scope d =
-        both (calls has (named place) scope d) (calls_all has (named_args args) scope d) (calls has place scope d) (calls_all has args scope d) (value_calls place (first_true (is_value place) (are_values args) e) scope d) (values_calls args (second_true (is_value place) (are_values args) e) scope d)
+        both (calls has (named place) scope d) (calls_all has (named_all args) scope d) (calls has place scope d) (calls_all has args scope d) (value_calls place (first_true (is_value place) (are_values args) e) scope d) (values_calls args (second_true (is_value place) (are_values args) e) scope d)
     term_calls (Switch value cases) e scope d =
         both (calls has (named value) scope d) (calls_all has (named_all cases) scope d) (calls has value scope d) (calls_all has cases scope d) (value_calls value (first_true (is_value value) (are_terms cases) e) scope d) (list_calls cases (second_true (is_value value) (are_terms cases) e) scope d)
     term_calls (Case value body) e scope d =
@@ -277,8 +263,7 @@ module _ (has : AbsolutePath → Bool) (path : AbsolutePath) where
     list_calls : (ts : Trees) → are_terms ts ≡ true → (scope : AbsolutePath) (d : Declarations) → first_of_all (calls_all has (named_all ts) scope d) ≡ first_of_all (calls_all has ts scope d)
     list_calls no_trees e scope d = refl
     list_calls (tree t ts) e scope d =
-        ap first_of_all (before_calls (named t) (named_all ts) scope d)
-        ∙ ap (λ d'. first_of_all (calls has (named t) scope d ++ calls_all has (named_all ts) scope d')) (named_declares t scope d)
+        ap (λ d'. first_of_all (calls has (named t) scope d ++ calls_all has (named_all ts) scope d')) (named_declares t scope d)
         ∙ both (calls has (named t) scope d) (calls_all has (named_all ts) scope (declare t scope d)) (calls has t scope d) (calls_all has ts scope (declare t scope d))
         (term_calls t (first_true (is_term t) (are_terms ts) e) scope d) (list_calls ts (second_true (is_term t) (are_terms ts) e) scope (declare t scope d))
 

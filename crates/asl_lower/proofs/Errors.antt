@@ -23,7 +23,7 @@ use Rattle.asl_tree.specs.FieldItems.{FieldItem, UnitItem, SkipItem, OffsetItem,
 use Rattle.acpi_names.specs.Terms.{has_no_targets, is_value, are_values, is_term, are_terms}
 use Rattle.acpi_names.proofs.MentionErrors.{undeclared}
 use Rattle.acpi_names.proofs.Mentions.{first_true, second_true}
-use Rattle.asl_lower.specs.Nodes.{given, last_target, assigned, assigned_by, before, named, inner_args, named_args, named_all}
+use Rattle.asl_lower.specs.Nodes.{given, last_target, assigned, assigned_by, named, inner_args, named_all}
 use Rattle.asl_lower.proofs.Named.{compound_letters, compound_spot}
 use Rattle.asl_lower.proofs.Declared.{IsGiven, given_declares, named_declares, same_declarations, same_first_call, same_known, count_args}
 
@@ -80,13 +80,6 @@ module _ (whole : Whole) (others : List (AbsolutePath × ℕ)) (same : (path : A
   assigned_by_none : (op : Compound) (target value : Tree) (scope : AbsolutePath) (d : Declarations) → declare target scope d ≡ d → names after target scope d ≡ [] → names after value scope d ≡ [] → names after (assigned_by op target value) scope d ≡ []
   assigned_by_none op target value scope d e ht hv =
       none_both (two_none (given target) (given value) scope d (given_declares target scope d ∙ e) (given_none target scope d ht) (given_none value scope d hv)) (last_none (row_of (compound_operator op)).targets target scope d ht)
-
-  before_none : (t : Tree) (ts : Trees) (scope : AbsolutePath) (d : Declarations) → names after t scope d ≡ [] → names_all after ts scope (declare t scope d) ≡ [] → names_all after (before t ts) scope d ≡ []
-  before_none (ElseIf test body) (tree (Else other) rest) scope d h k =
-      none_both (none_both h (none_both (left_none (names_all after other scope (declare (If test body) scope d)) _ k) refl)) (right_none (names_all after other scope (declare (If test body) scope d)) _ k)
-  before_none (ElseIf test body) no_trees scope d h k = none_both (none_both h refl) k
-  before_none (ElseIf test body) (tree t rest) scope d h k = none_both (none_both h refl) k
-  before_none t ts scope d h k = none_both h k
 
   mutual
     value_names : (t : Tree) → is_value t ≡ true → (scope : AbsolutePath) (d : Declarations) → N t scope d ≡ [] → N' t scope d ≡ []
@@ -146,11 +139,11 @@ module _ (whole : Whole) (others : List (AbsolutePath × ℕ)) (same : (path : A
     inner_names (Operated op args) e some scope d h = values_names args e scope d h
     inner_names _ e some scope d h = absurd some
 
-    values_names : (ts : Trees) → are_values ts ≡ true → (scope : AbsolutePath) (d : Declarations) → names_all whole ts scope d ≡ [] → names_all after (named_args ts) scope d ≡ []
+    values_names : (ts : Trees) → are_values ts ≡ true → (scope : AbsolutePath) (d : Declarations) → names_all whole ts scope d ≡ [] → names_all after (named_all ts) scope d ≡ []
     values_names no_trees e scope d h = refl
     values_names (tree t ts) e scope d h =
         none_both (value_names t (first_true (is_value t) (are_values ts) e) scope d (left_none (N t scope d) _ h))
-        (ap (names_all after (named_args ts) scope) (named_declares t scope d) ∙ values_names ts (second_true (is_value t) (are_values ts) e) scope (declare t scope d) (right_none (N t scope d) _ h))
+        (ap (names_all after (named_all ts) scope) (named_declares t scope d) ∙ values_names ts (second_true (is_value t) (are_values ts) e) scope (declare t scope d) (right_none (N t scope d) _ h))
 
   items_none : (items : List (FieldItem UnitName)) (scope : AbsolutePath) (d : Declarations) → items_errors whole items scope d ≡ [] → items_errors after items scope d ≡ []
   items_none [] scope d h = refl
@@ -225,7 +218,7 @@ module _ (whole : Whole) (others : List (AbsolutePath × ℕ)) (same : (path : A
     list_names : (ts : Trees) → are_terms ts ≡ true → (scope : AbsolutePath) (d : Declarations) → names_all whole ts scope d ≡ [] → names_all after (named_all ts) scope d ≡ []
     list_names no_trees e scope d h = refl
     list_names (tree t ts) e scope d h =
-        before_none (named t) (named_all ts) scope d (term_names t (first_true (is_term t) (are_terms ts) e) scope d (left_none (N t scope d) _ h))
+        none_both (term_names t (first_true (is_term t) (are_terms ts) e) scope d (left_none (N t scope d) _ h))
         (ap (names_all after (named_all ts) scope) (named_declares t scope d) ∙ list_names ts (second_true (is_term t) (are_terms ts) e) scope (declare t scope d) (right_none (N t scope d) _ h))
 
   -- ---- kinds and counts
@@ -331,12 +324,6 @@ module _ (whole : Whole) (others : List (AbsolutePath × ℕ)) (same : (path : A
       let ts = tree (given target) (tree (given value) no_trees) in
       ap (λ form. spot_form_types after form (operand_types after (asked_by o) (row_of o).operands ts scope ++ spot_types_all after (last_target (row_of o).targets target) scope) (first_types after ts scope)) (compound_spot op)
 
-  before_right : (t : Tree) (ts : Trees) (scope : AbsolutePath) → types after t scope ≡ [] → types_all after ts scope ≡ [] → types_all after (before t ts) scope ≡ []
-  before_right (ElseIf test body) (tree (Else other) rest) scope h k = none_both (none_both h (none_both (left_none (types_all after other scope) _ k) refl)) (right_none (types_all after other scope) _ k)
-  before_right (ElseIf test body) no_trees scope h k = none_both (none_both h refl) k
-  before_right (ElseIf test body) (tree t rest) scope h k = none_both (none_both h refl) k
-  before_right t ts scope h k = none_both h k
-
   operator_is : (symbol op : Plain) (c : Bool) → (if c then Some symbol else None) ≡ Some op → symbol ≡ op
   operator_is symbol op true e = ap (λ o. choose o symbol (λ p. p)) e
   operator_is symbol op false e = absurd cc
@@ -389,7 +376,7 @@ module _ (whole : Whole) (others : List (AbsolutePath × ℕ)) (same : (path : A
 
     inner_right : (op : Plain) (value : Tree) (scope : AbsolutePath) → target_operator value ≡ Some op → K value scope ≡ [] → operand_types after (asked_by op) (row_of op).operands (inner_args value) scope ≡ []
     inner_right op (Operated symbol args) scope e h =
-        subst (λ o. operand_types after (asked_by o) (row_of o).operands (named_args args) scope ≡ []) (operator_is symbol op (takes_target symbol) e) (operands_right (asked_by symbol) (row_of symbol).operands args scope h)
+        subst (λ o. operand_types after (asked_by o) (row_of o).operands (named_all args) scope ≡ []) (operator_is symbol op (takes_target symbol) e) (operands_right (asked_by symbol) (row_of symbol).operands args scope h)
     inner_right op _ scope e h = absurd cc
 
     spot_types_right : (t : Tree) (scope : AbsolutePath) → S t scope ≡ [] → S' t scope ≡ []
@@ -403,33 +390,33 @@ module _ (whole : Whole) (others : List (AbsolutePath × ℕ)) (same : (path : A
     spot_types_right (AssignedBy op target value) scope h = assigned_by_nowhere op (named target) (named value) scope
     spot_types_right _ scope h = refl
 
-    first_right : (ts : Trees) (scope : AbsolutePath) → first_types whole ts scope ≡ [] → first_types after (named_args ts) scope ≡ []
+    first_right : (ts : Trees) (scope : AbsolutePath) → first_types whole ts scope ≡ [] → first_types after (named_all ts) scope ≡ []
     first_right no_trees scope h = refl
     first_right (tree t ts) scope h = types_right t scope h
 
-    operands_right : (asked : Asked) (letters : List Letter) (ts : Trees) (scope : AbsolutePath) → operand_types whole asked letters ts scope ≡ [] → operand_types after asked letters (named_args ts) scope ≡ []
+    operands_right : (asked : Asked) (letters : List Letter) (ts : Trees) (scope : AbsolutePath) → operand_types whole asked letters ts scope ≡ [] → operand_types after asked letters (named_all ts) scope ≡ []
     operands_right asked [] ts scope h = refl
     operands_right asked (letter ∷ letters) no_trees scope h = refl
     operands_right asked (letter ∷ letters) (tree t ts) scope h =
         let here = letter_types whole letter (K t scope) (S t scope) (used_types whole asked t scope) in
         none_both (letter_right asked letter t scope (λ k. types_right t scope k) (λ k. spot_types_right t scope k) (left_none here _ h)) (operands_right asked letters ts scope (right_none here _ h))
 
-    spots_right : (ts : Trees) (scope : AbsolutePath) → spot_types_all whole ts scope ≡ [] → spot_types_all after (named_args ts) scope ≡ []
+    spots_right : (ts : Trees) (scope : AbsolutePath) → spot_types_all whole ts scope ≡ [] → spot_types_all after (named_all ts) scope ≡ []
     spots_right no_trees scope h = refl
     spots_right (tree t ts) scope h = none_both (spot_types_right t scope (left_none (S t scope) _ h)) (spots_right ts scope (right_none (S t scope) _ h))
 
-    elements_right : (ts : Trees) (scope : AbsolutePath) → element_types_all whole ts scope ≡ [] → element_types_all after (named_args ts) scope ≡ []
+    elements_right : (ts : Trees) (scope : AbsolutePath) → element_types_all whole ts scope ≡ [] → element_types_all after (named_all ts) scope ≡ []
     elements_right no_trees scope h = refl
     elements_right (tree t ts) scope h =
         none_both (element_right t scope (λ k. types_right t scope k) (left_none (element_types whole t (K t scope)) _ h)) (elements_right ts scope (right_none (element_types whole t (K t scope)) _ h))
 
-    args_right : (ts : Trees) (scope : AbsolutePath) → types_all whole ts scope ≡ [] → types_all after (named_args ts) scope ≡ []
+    args_right : (ts : Trees) (scope : AbsolutePath) → types_all whole ts scope ≡ [] → types_all after (named_all ts) scope ≡ []
     args_right no_trees scope h = refl
     args_right (tree t ts) scope h = none_both (types_right t scope (left_none (K t scope) _ h)) (args_right ts scope (right_none (K t scope) _ h))
 
     list_right : (ts : Trees) (scope : AbsolutePath) → types_all whole ts scope ≡ [] → types_all after (named_all ts) scope ≡ []
     list_right no_trees scope h = refl
-    list_right (tree t ts) scope h = before_right (named t) (named_all ts) scope (types_right t scope (left_none (K t scope) _ h)) (list_right ts scope (right_none (K t scope) _ h))
+    list_right (tree t ts) scope h = none_both (types_right t scope (left_none (K t scope) _ h)) (list_right ts scope (right_none (K t scope) _ h))
 
 -- the calls of a program with its operators named
 abbrev named_calls : Trees → List (AbsolutePath × ℕ)

@@ -20,13 +20,8 @@ use Rattle.asl_tree.specs.Tree.{At, Tree, Apply, Assigned, Integer, Constant, St
 use Rattle.asl_tree.specs.View.{fits, form, operands_as, targets_of, plain_of, not_of, apply_of, operated, buffer, body_bytes, packaged, counted, items_in}
 use Rattle.asl_meaning.specs.Meaning.{target_operator}
 use Rattle.asl_lower.specs.Nests.{joined}
-use Rattle.asl_lower.specs.Nodes as N
 use Rattle.asl_lower.proofs.Named.{compound_letters}
-use Rattle.asl_lower.specs.Nodes.{given, last_target, applied, assigned, assigned_by, nested, named, inner_args, named_args, named_all, named_body, is_symbolic}
-
-pub all_nested : (ts : Trees) → nested (named_args ts) ≡ named_all ts
-all_nested no_trees = refl
-all_nested (tree t ts) = ap (N.before (named t)) (all_nested ts)
+use Rattle.asl_lower.specs.Nodes.{given, last_target, applied, assigned, named, inner_args, named_all, named_body, is_symbolic}
 
 -- an argument as an operand
 abbrev first_operand : Letter → Tree → Tree
@@ -47,29 +42,29 @@ named_first (L.Raw size) t = refl
 named_first Valued Omitted = refl
 named_first letter t = refl
 
-pub named_operands : (letters : List Letter) (ts : Trees) → named_args (operands_as letters ts) ≡ operands_as letters (named_args ts)
+pub named_operands : (letters : List Letter) (ts : Trees) → named_all (operands_as letters ts) ≡ operands_as letters (named_all ts)
 named_operands [] ts = refl
 named_operands (letter ∷ letters) no_trees = refl
 named_operands (letter ∷ letters) (tree t ts) =
-    ap named_args (operands_first letter letters t ts)
-    ∙ ap (λ x. tree x (named_args (operands_as letters ts))) (named_first letter t)
+    ap named_all (operands_first letter letters t ts)
+    ∙ ap (λ x. tree x (named_all (operands_as letters ts))) (named_first letter t)
     ∙ ap (tree (first_operand letter (named t))) (named_operands letters ts)
-    ∙ sym (operands_first letter letters (named t) (named_args ts))
+    ∙ sym (operands_first letter letters (named t) (named_all ts))
 
-named_targets : (letters : List Letter) (ts : Trees) → named_args (targets_of letters ts) ≡ targets_of letters (named_args ts)
+named_targets : (letters : List Letter) (ts : Trees) → named_all (targets_of letters ts) ≡ targets_of letters (named_all ts)
 named_targets [] ts = refl
 named_targets (letter ∷ letters) no_trees = refl
 named_targets (letter ∷ letters) (tree t ts) = named_targets letters ts
 
-named_plain : (op : Plain) (args : Trees) → named (plain_of op args) ≡ plain_of op (named_args args)
+named_plain : (op : Plain) (args : Trees) → named (plain_of op args) ≡ plain_of op (named_all args)
 named_plain op args =
-    ap (λ ts. Apply op ts (named_args (targets_of (row_of op).operands args))) (named_operands (row_of op).operands args)
-    ∙ ap (Apply op (operands_as (row_of op).operands (named_args args))) (named_targets (row_of op).operands args)
+    ap (λ ts. Apply op ts (named_all (targets_of (row_of op).operands args))) (named_operands (row_of op).operands args)
+    ∙ ap (Apply op (operands_as (row_of op).operands (named_all args))) (named_targets (row_of op).operands args)
 
-named_not : (op : IntOp) (args : Trees) → named (not_of op args) ≡ not_of op (named_args args)
+named_not : (op : IntOp) (args : Trees) → named (not_of op args) ≡ not_of op (named_all args)
 named_not op args = named_plain (Plain.Number IntOp.LNot) (tree (plain_of (Plain.Number op) args) no_trees) ∙ ap (λ t. plain_of (Plain.Number IntOp.LNot) (tree t no_trees)) (named_plain (Plain.Number op) args)
 
-named_apply : (op : Plain) (args : Trees) → named (apply_of op args) ≡ apply_of op (named_args args)
+named_apply : (op : Plain) (args : Trees) → named (apply_of op args) ≡ apply_of op (named_all args)
 named_apply (Plain.Number IntOp.LNotEqual) args = named_not IntOp.LEqual args
 named_apply (Plain.Number IntOp.LLessEqual) args = named_not IntOp.LGreater args
 named_apply (Plain.Number IntOp.LGreaterEqual) args = named_not IntOp.LLess args
@@ -79,19 +74,19 @@ named_buffer : (size : Tree) (bytes : List ℕ) → named (buffer size bytes) �
 named_buffer Omitted bytes = refl
 named_buffer size bytes = refl
 
-count_named : (ts : Trees) → count (named_args ts) ≡ count ts
+count_named : (ts : Trees) → count (named_all ts) ≡ count ts
 count_named no_trees = refl
 count_named (tree t ts) = ap suc (count_named ts)
 
-named_counted : (n : ℕ) (elements : Trees) → named (counted n elements) ≡ counted n (named_args elements)
+named_counted : (n : ℕ) (elements : Trees) → named (counted n elements) ≡ counted n (named_all elements)
 named_counted n elements = by_less (nat_le n 255)
   where
-    by_less : (c : Bool) → named (if c then Package n elements else VarPackage (Integer n) elements) ≡ (if c then Package n (named_args elements) else VarPackage (Integer n) (named_args elements))
+    by_less : (c : Bool) → named (if c then Package n elements else VarPackage (Integer n) elements) ≡ (if c then Package n (named_all elements) else VarPackage (Integer n) (named_all elements))
     by_less true = refl
     by_less false = refl
 
-named_packaged : (size : Tree) (elements : Trees) → named (packaged size elements) ≡ packaged (named size) (named_args elements)
-named_packaged Omitted elements = named_counted (count elements) elements ∙ sym (ap (λ n. counted n (named_args elements)) (count_named elements))
+named_packaged : (size : Tree) (elements : Trees) → named (packaged size elements) ≡ packaged (named size) (named_all elements)
+named_packaged Omitted elements = named_counted (count elements) elements ∙ sym (ap (λ n. counted n (named_all elements)) (count_named elements))
 named_packaged (Integer n) elements = named_counted n elements
 named_packaged size elements = refl
 
@@ -100,7 +95,7 @@ by_items None made more h = refl
 by_items (Some items) made more h = h items
 
 -- a form that is written with no symbol
-pub kept_form : (at : At) (op : Op) (args body : Trees) → is_symbolic op ≡ false → named (form at op args body) ≡ form at op (named_args args) (named_body op body)
+pub kept_form : (at : At) (op : Op) (args body : Trees) → is_symbolic op ≡ false → named (form at op args body) ≡ form at op (named_all args) (named_body op body)
 kept_form here (Op.Declaration Declaration.Name) (tree (Use at name) (tree value no_trees)) no_trees e = refl
 kept_form here (Op.Declaration Declaration.Alias) (tree (Use from source) (tree (Use at name) no_trees)) no_trees e = refl
 kept_form here (Op.Declaration Declaration.External) (tree (Use at name) (tree (Integer type) no_trees)) no_trees e = refl
@@ -146,7 +141,7 @@ kept_form here _ _ _ e = refl
 
 -- ---- symbols
 
-fits_named : (letters : List Letter) (ts : Trees) → fits letters (named_args ts) ≡ fits letters ts
+fits_named : (letters : List Letter) (ts : Trees) → fits letters (named_all ts) ≡ fits letters ts
 fits_named [] no_trees = refl
 fits_named [] (tree t ts) = refl
 fits_named (letter ∷ letters) no_trees = refl
@@ -169,15 +164,15 @@ pub plain_joined : (op : Plain) (ts us : Trees) → fits (row_of op).operands ts
 plain_joined op ts us e =
     ap (λ xs. Apply op xs (targets_of (row_of op).operands (joined ts us))) (operands_joined (row_of op).operands ts us e) ∙ ap (Apply op (operands_as (row_of op).operands ts)) (targets_joined (row_of op).operands ts us e)
 
-symbol_plain : (op : Plain) (args us : Trees) → fits (row_of op).operands args ≡ true → Apply op (named_args (operands_as (row_of op).operands args)) us ≡ plain_of op (joined (named_args args) us)
+symbol_plain : (op : Plain) (args us : Trees) → fits (row_of op).operands args ≡ true → Apply op (named_all (operands_as (row_of op).operands args)) us ≡ plain_of op (joined (named_all args) us)
 symbol_plain op args us e =
-    ap (λ xs. Apply op xs us) (named_operands (row_of op).operands args) ∙ sym (plain_joined op (named_args args) us (fits_named (row_of op).operands args ∙ e))
+    ap (λ xs. Apply op xs us) (named_operands (row_of op).operands args) ∙ sym (plain_joined op (named_all args) us (fits_named (row_of op).operands args ∙ e))
 
 symbol_not : (op : IntOp) (args : Trees) → fits (row_of (Plain.Number op)).operands args ≡ true →
-    Apply (Plain.Number IntOp.LNot) (tree (Apply (Plain.Number op) (named_args (operands_as (row_of (Plain.Number op)).operands args)) no_trees) no_trees) no_trees ≡ not_of op (joined (named_args args) no_trees)
+    Apply (Plain.Number IntOp.LNot) (tree (Apply (Plain.Number op) (named_all (operands_as (row_of (Plain.Number op)).operands args)) no_trees) no_trees) no_trees ≡ not_of op (joined (named_all args) no_trees)
 symbol_not op args e = ap (λ t. Apply (Plain.Number IntOp.LNot) (tree t no_trees) no_trees) (symbol_plain (Plain.Number op) args no_trees e)
 
-operated_named : (op : Plain) (args : Trees) → fits (row_of op).operands args ≡ true → named (operated op (operands_as (row_of op).operands args)) ≡ apply_of op (joined (named_args args) (last_target (row_of op).targets Omitted))
+operated_named : (op : Plain) (args : Trees) → fits (row_of op).operands args ≡ true → named (operated op (operands_as (row_of op).operands args)) ≡ apply_of op (joined (named_all args) (last_target (row_of op).targets Omitted))
 operated_named (Plain.Number IntOp.LNotEqual) args e = symbol_not IntOp.LEqual args e
 operated_named (Plain.Number IntOp.LLessEqual) args e = symbol_not IntOp.LGreater args e
 operated_named (Plain.Number IntOp.LGreaterEqual) args e = symbol_not IntOp.LLess args e
@@ -185,15 +180,15 @@ operated_named op args e = symbol_plain op args (last_target (row_of op).targets
 
 -- a symbol's form whose arguments fit: the named operator, its targets left out
 pub symbol_named : (at : At) (op : Plain) (args : Trees) → fits (row_of op).operands args ≡ true
-    → named (form at (Op.Symbolic (Symbolic.Operator op)) args no_trees) ≡ form at (Op.Plain op) (joined (named_args args) (last_target (row_of op).targets Omitted)) no_trees
+    → named (form at (Op.Symbolic (Symbolic.Operator op)) args no_trees) ≡ form at (Op.Plain op) (joined (named_all args) (last_target (row_of op).targets Omitted)) no_trees
 symbol_named at op args e = ap (λ c. named (if c then operated op (operands_as (row_of op).operands args) else Misshapen)) e ∙ operated_named op args e
 
 -- one whose arguments do not fit
 pub symbol_kept : (at : At) (op : Plain) (args : Trees) → fits (row_of op).operands args ≡ false
-    → named (form at (Op.Symbolic (Symbolic.Operator op)) args no_trees) ≡ form at (Op.Symbolic (Symbolic.Operator op)) (named_args args) no_trees
+    → named (form at (Op.Symbolic (Symbolic.Operator op)) args no_trees) ≡ form at (Op.Symbolic (Symbolic.Operator op)) (named_all args) no_trees
 symbol_kept at op args e =
     ap (λ c. named (if c then operated op (operands_as (row_of op).operands args) else Misshapen)) e
-    ∙ sym (ap (λ c. if c then operated op (operands_as (row_of op).operands (named_args args)) else Misshapen) (fits_named (row_of op).operands args ∙ e))
+    ∙ sym (ap (λ c. if c then operated op (operands_as (row_of op).operands (named_all args)) else Misshapen) (fits_named (row_of op).operands args ∙ e))
 
 -- ---- assignments
 
@@ -207,18 +202,18 @@ pub store_named : (at : At) (target value : Tree) → target_operator value ≡ 
 store_named at target value e = ap (λ o. assigned o (inner_args value) (named target) (named value)) e ∙ store_operands (named value) (named target)
 
 takes_named : (op : Plain) (args : Trees) (target : Tree) → fits (row_of op).operands args ≡ true → takes_target op ≡ true →
-    named (Assigned target (operated op (operands_as (row_of op).operands args))) ≡ apply_of op (joined (named_args args) (last_target (row_of op).targets (named target)))
+    named (Assigned target (operated op (operands_as (row_of op).operands args))) ≡ apply_of op (joined (named_all args) (last_target (row_of op).targets (named target)))
 takes_named (Plain.Number IntOp.LNotEqual) args target e takes = absurd cc
 takes_named (Plain.Number IntOp.LLessEqual) args target e takes = absurd cc
 takes_named (Plain.Number IntOp.LGreaterEqual) args target e takes = absurd cc
 takes_named op args target e takes =
-    ap (λ c. assigned (if c then Some op else None) (named_args (operands_as (row_of op).operands args)) (named target) (applied op (named_args (operands_as (row_of op).operands args)) Omitted)) takes
+    ap (λ c. assigned (if c then Some op else None) (named_all (operands_as (row_of op).operands args)) (named target) (applied op (named_all (operands_as (row_of op).operands args)) Omitted)) takes
     ∙ symbol_plain op args (last_target (row_of op).targets (named target)) e
 
 -- an assignment whose value is an operator that is given its target
 pub operator_named : (at here : At) (op : Plain) (args : Trees) (target : Tree) → fits (row_of op).operands args ≡ true → takes_target op ≡ true
     → named (form at (Op.Symbolic Symbolic.Assign) (tree target (tree (form here (Op.Symbolic (Symbolic.Operator op)) args no_trees) no_trees)) no_trees)
-    ≡ form at (Op.Plain op) (joined (named_args args) (last_target (row_of op).targets (named target))) no_trees
+    ≡ form at (Op.Plain op) (joined (named_all args) (last_target (row_of op).targets (named target))) no_trees
 operator_named at here op args target e takes =
     ap (λ c. named (Assigned target (if c then operated op (operands_as (row_of op).operands args) else Misshapen))) e ∙ takes_named op args target e takes
 

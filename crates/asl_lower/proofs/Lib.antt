@@ -1,5 +1,3 @@
-pub mod Alike
-pub mod Runs
 pub mod Named
 pub mod Declared
 pub mod Errors

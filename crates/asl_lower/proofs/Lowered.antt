@@ -8,7 +8,6 @@ use Rattle.acpi_values.specs.Operators.{row_of}
 use Rattle.asl_tree.specs.declared.path.Path.{Path}
 use Rattle.asl_tree.specs.declared.term.Compound.{Compound}
 use Rattle.asl_tree.specs.declared.term.Op.{Op}
-use Rattle.asl_tree.specs.declared.term.Control.TheVariants as Control
 use Rattle.asl_tree.specs.declared.term.Symbolic.{Symbolic}
 use Rattle.asl_tree.specs.declared.term.Symbolic.TheVariants as S
 use Rattle.asl_tree.specs.declared.term.Node.{Node}
@@ -23,8 +22,8 @@ use Rattle.acpi_names.specs.Walked.{OfForm, term_shape, node_tree}
 use Rattle.acpi_names.proofs.Trees.{form_tree, call_tree, form_rows}
 use Rattle.asl_lower.specs.Kinds.{flagged, shape_kind, shape_args}
 use Rattle.asl_lower.specs.Nests.{joined}
-use Rattle.asl_lower.specs.Nodes.{given, last_target, named, named_args, named_body, is_symbolic}
-use Rattle.asl_lower.specs.Places.{lowered_at, lowered_places, nested_at, nested_places}
+use Rattle.asl_lower.specs.Nodes.{given, last_target, named, named_all, named_body, is_symbolic}
+use Rattle.term_places.specs.Places.{term_places, places_of}
 use Rattle.asl_lower.specs.declared.kind.TermRole.{TermRole}
 use Rattle.asl_lower.proofs.Turns.{Turns}
 use Rattle.asl_lower.proofs.Backwards.{behind_all, joined_none}
@@ -117,9 +116,9 @@ target_none all target left e = sym (ap (λ n. joined (trees_of all) (last_targe
 -- a node and what it is lowered to
 pub record IsLowered (old now : Node) : Type 0 where
   pub is : node_tree now ≡ named (node_tree old)
-  pub places : nested_at now.place now.term ≡ lowered_at old.place old.term
+  pub places : term_places now ≡ term_places old
 
-trees_lowered : (old now : List Node) → length now ≡ length old → ((k : ℕ) → k < length old → (e : Node) → IsLowered (get_or old k e) (get_or now k e)) → trees_of now ≡ named_args (trees_of old)
+trees_lowered : (old now : List Node) → length now ≡ length old → ((k : ℕ) → k < length old → (e : Node) → IsLowered (get_or old k e) (get_or now k e)) → trees_of now ≡ named_all (trees_of old)
 unfolding trees_of
 trees_lowered [] [] size h = refl
 trees_lowered [] (n ∷ now) size h = absurd (omega (arith, size))
@@ -127,15 +126,15 @@ trees_lowered (o ∷ old) [] size h = absurd (omega (arith, size))
 trees_lowered (o ∷ old) (n ∷ now) size h =
     ap (λ t. tree t (trees_of now)) (h 0 (omega arith) o).is ∙ ap (tree (named (node_tree o))) (trees_lowered old now (omega (arith, size)) (λ k lt e. h (suc k) (omega (arith, lt)) e))
 
-places_lowered : (old now : List Node) → length now ≡ length old → ((k : ℕ) → k < length old → (e : Node) → IsLowered (get_or old k e) (get_or now k e)) → nested_places now ≡ lowered_places old
-unfolding nested_places lowered_places
+places_lowered : (old now : List Node) → length now ≡ length old → ((k : ℕ) → k < length old → (e : Node) → IsLowered (get_or old k e) (get_or now k e)) → places_of now ≡ places_of old
+unfolding places_of
 places_lowered [] [] size h = refl
 places_lowered [] (n ∷ now) size h = absurd (omega (arith, size))
 places_lowered (o ∷ old) [] size h = absurd (omega (arith, size))
 places_lowered (o ∷ old) (n ∷ now) size h =
-    ap (λ ps. ps ++ nested_places now) (h 0 (omega arith) o).places ∙ ap (λ ps. lowered_at o.place o.term ++ ps) (places_lowered old now (omega (arith, size)) (λ k lt e. h (suc k) (omega (arith, lt)) e))
+    ap (λ ps. ps ++ places_of now) (h 0 (omega arith) o).places ∙ ap (λ ps. term_places o ++ ps) (places_lowered old now (omega (arith, size)) (λ k lt e. h (suc k) (omega (arith, lt)) e))
 
-pub each_lowered : (old now : List Node) (i : ℕ) → length old ≤ i → Turns (λ k. IsLowered) old now i → (trees_of now ≡ named_args (trees_of old)) × (nested_places now ≡ lowered_places old)
+pub each_lowered : (old now : List Node) (i : ℕ) → length old ≤ i → Turns (λ k. IsLowered) old now i → (trees_of now ≡ named_all (trees_of old)) × (places_of now ≡ places_of old)
 each_lowered old now i le turns =
     let each : (k : ℕ) → k < length old → (e : Node) → IsLowered (get_or old k e) (get_or now k e) = λ k lt e. turns.done k (omega (arith, lt, le)) e in
     (trees_lowered old now turns.size each, places_lowered old now turns.size each)
@@ -206,7 +205,7 @@ no_args made t e not_form = (ap trees_of e ∙ none ∙ sym (by_layer (D.out-Ter
     by_layer (D.Term-F.Offset n) e = ap (λ t. shape_args (term_shape t)) (e ∙ V.rolls-Offset n)
     by_layer (D.Term-F.Access access attribute count) e = ap (λ t. shape_args (term_shape t)) (e ∙ V.rolls-Access access attribute count)
 
-pub call_named : (at : At) (t : Term) (path : Path) (args made : Vec Node Global) → t ≡ D.Call path args → trees_of made.items ≡ named_args (trees_of args.items) → tree_of at (D.Call path made) ≡ named (tree_of at t)
+pub call_named : (at : At) (t : Term) (path : Path) (args made : Vec Node Global) → t ≡ D.Call path args → trees_of made.items ≡ named_all (trees_of args.items) → tree_of at (D.Call path made) ≡ named (tree_of at t)
 call_named at t path args made e h = call_tree at path made ∙ ap (Call at path) h ∙ ap named (sym (call_tree at path args)) ∙ ap (λ t. named (tree_of at t)) (sym e)
 
 pub form_named : (at : At) (t : Term) (op new : Op) (args body made more : Vec Node Global) → t ≡ D.Form op args body → form at new (trees_of made.items) (trees_of more.items) ≡ named (form at op (trees_of args.items) (trees_of body.items))
@@ -217,9 +216,9 @@ not_symbolic : (op : Op) → ((symbol : Symbolic) → op ≡ Op.Symbolic symbol 
 not_symbolic (Op.Symbolic symbol) never = absurd (never symbol refl)
 not_symbolic op never = refl
 
-pub kept_named : (at : At) (op : Op) (args body made more : Trees) → ((symbol : Symbolic) → op ≡ Op.Symbolic symbol → ⊥) → made ≡ named_args args → more ≡ named_body op body → form at op made more ≡ named (form at op args body)
+pub kept_named : (at : At) (op : Op) (args body made more : Trees) → ((symbol : Symbolic) → op ≡ Op.Symbolic symbol → ⊥) → made ≡ named_all args → more ≡ named_body op body → form at op made more ≡ named (form at op args body)
 kept_named at op args body made more never ha hb =
-    ap (λ ts. form at op ts more) ha ∙ ap (form at op (named_args args)) hb ∙ sym (kept_form at op args body (not_symbolic op never))
+    ap (λ ts. form at op ts more) ha ∙ ap (form at op (named_all args)) hb ∙ sym (kept_form at op args body (not_symbolic op never))
 
 -- ---- symbols that do not fit
 
@@ -274,7 +273,7 @@ assign_by_misfits at op (a ∷ b ∷ c ∷ args) never = refl
 
 -- ---- symbols that fit
 
-pub operator_lowered : (at : At) (op : Plain) (args : Trees) (operands all : Trees) → fits (row_of op).operands args ≡ true → operands ≡ named_args args
+pub operator_lowered : (at : At) (op : Plain) (args : Trees) (operands all : Trees) → fits (row_of op).operands args ≡ true → operands ≡ named_all args
     → all ≡ joined operands (last_target (row_of op).targets Omitted) → form at (Op.Plain op) all no_trees ≡ named (form at (Op.Symbolic (S.Operator op)) args no_trees)
 operator_lowered at op args operands all e ho ha =
     ap (λ ts. form at (Op.Plain op) ts no_trees) (ha ∙ ap (λ ts. joined ts (last_target (row_of op).targets Omitted)) ho)
@@ -287,11 +286,6 @@ record IsOperator (op : Plain) (args : Trees) (form_at : At → Tree) : Type 0 w
   takes : takes_target op ≡ true
 
 operator_form : (o : Op) (args body : Trees) (op : Plain) → shape_kind (OfForm o args body) ≡ TermRole.Operated op → IsOperator op args (λ at. form at o args body)
-operator_form (Op.Control Control.ElseIf) no_trees body op e = absurd cc
-operator_form (Op.Control Control.ElseIf) (tree t no_trees) body op e = absurd cc
-operator_form (Op.Control Control.ElseIf) (tree t (tree u us)) body op e = absurd cc
-operator_form (Op.Control Control.Else) no_trees body op e = absurd cc
-operator_form (Op.Control Control.Else) (tree t ts) body op e = absurd cc
 operator_form (Op.Symbolic (S.Operator o)) args (tree t ts) op e = absurd cc
 operator_form (Op.Symbolic (S.Operator o)) args no_trees op e = by_flags (fits (row_of o).operands args) (takes_target o) refl refl e
   where
@@ -311,13 +305,13 @@ operator_term (D.Form' o shape args shape' body) op e = operator_form o (row_tre
 operator_term _ op e = absurd cc
 
 pub assign_lowered : (at : At) (args : List Node) (target value low : Node) (op : Plain) (inner operands all : Trees) → args ≡ target ∷ value ∷ [] → node_tree low ≡ named (node_tree target) → TermRole.Operated op ≡ shape_kind (term_shape value.term)
-    → inner ≡ shape_args (term_shape value.term) → operands ≡ named_args inner → all ≡ joined operands (last_target (row_of op).targets (node_tree low))
+    → inner ≡ shape_args (term_shape value.term) → operands ≡ named_all inner → all ≡ joined operands (last_target (row_of op).targets (node_tree low))
     → form at (Op.Plain op) all no_trees ≡ named (form at (Op.Symbolic S.Assign) (trees_of args) no_trees)
 assign_lowered at args target value low op inner operands all two low_is k hi ho ha =
     let o = operator_term value.term op (sym k) in
     let here : At = record { id = value.id; place = value.place } in
     ap (λ ts. form at (Op.Plain op) ts no_trees)
-    (ha ∙ ap (λ ts. joined ts (last_target (row_of op).targets (node_tree low))) (ho ∙ ap named_args hi) ∙ ap (λ t. joined (named_args (shape_args (term_shape value.term))) (last_target (row_of op).targets t)) low_is)
+    (ha ∙ ap (λ ts. joined ts (last_target (row_of op).targets (node_tree low))) (ho ∙ ap named_all hi) ∙ ap (λ t. joined (named_all (shape_args (term_shape value.term))) (last_target (row_of op).targets t)) low_is)
     ∙ sym (operator_named at here op (shape_args (term_shape value.term)) (node_tree target) o.fit o.takes)
     ∙ ap (λ t. named (form at (Op.Symbolic S.Assign) (tree (node_tree target) (tree t no_trees)) no_trees)) (sym (o.is here))
     ∙ ap (λ ts. named (form at (Op.Symbolic S.Assign) ts no_trees)) (sym (two_trees args target value two))
@@ -348,17 +342,17 @@ two_long (a ∷ b ∷ []) d e = refl
 two_long (a ∷ b ∷ c ∷ nodes) d e = absurd (omega (arith, e))
 
 -- the arguments of an assignment, lowered
-args_lowered : (args each : List Node) (target value : Node) → args ≡ target ∷ value ∷ [] → trees_of each ≡ named_args (trees_of args) → TwoNodes each (named (node_tree target)) (named (node_tree value))
-args_lowered args each target value e h = two_nodes each (named (node_tree target)) (named (node_tree value)) (h ∙ ap named_args (two_trees args target value e))
+args_lowered : (args each : List Node) (target value : Node) → args ≡ target ∷ value ∷ [] → trees_of each ≡ named_all (trees_of args) → TwoNodes each (named (node_tree target)) (named (node_tree value))
+args_lowered args each target value e h = two_nodes each (named (node_tree target)) (named (node_tree value)) (h ∙ ap named_all (two_trees args target value e))
 
-pub both_long : (args each : List Node) → length args ≡ 2 → trees_of each ≡ named_args (trees_of args) → length each ≡ 2
+pub both_long : (args each : List Node) → length args ≡ 2 → trees_of each ≡ named_all (trees_of args) → length each ≡ 2
 both_long [] each e h = absurd (omega (arith, e))
 both_long (a ∷ []) each e h = absurd (omega (arith, e))
 both_long (a ∷ b ∷ []) each e h = ap length (args_lowered (a ∷ b ∷ []) each a b refl h).are
 both_long (a ∷ b ∷ c ∷ args) each e h = absurd (omega (arith, e))
 
 -- `X = E` as a Store: the arguments lowered, each in the other's place, with a value that has to be there
-pub store_lowered : (at : At) (args each swapped : List Node) (value first there : Node) (k : TermRole) → length args ≡ 2 → value ≡ get_or args 1 value → trees_of each ≡ named_args (trees_of args) → swapped ≡ swap each 0 1
+pub store_lowered : (at : At) (args each swapped : List Node) (value first there : Node) (k : TermRole) → length args ≡ 2 → value ≡ get_or args 1 value → trees_of each ≡ named_all (trees_of args) → swapped ≡ swap each 0 1
     → first ≡ get_or swapped 0 first → node_tree there ≡ given (node_tree first) → k ≡ shape_kind (term_shape value.term) → ((op : Plain) → k ≡ TermRole.Operated op → ⊥)
     → form at (Op.Plain (Plain.Data DataOp.Store)) (trees_of (set swapped 0 there)) no_trees ≡ named (form at (Op.Symbolic S.Assign) (trees_of args) no_trees)
 store_lowered at args each swapped value first there k long is low turned first_is there_is k_is never =
@@ -375,7 +369,7 @@ store_lowered at args each swapped value first there k long is low turned first_
     ∙ ap (λ ts. named (form at (Op.Symbolic S.Assign) ts no_trees)) (sym (two_trees args target value two))
 
 -- `X op= Y`: the arguments lowered, both of which have to be there, and a copy of the first as the target
-pub compound_lowered : (at : At) (op : Compound) (plain : Plain) (args each : List Node) (target copy first there second behind : Node) (all : Trees) → plain ≡ compound_operator op → length args ≡ 2 → trees_of each ≡ named_args (trees_of args)
+pub compound_lowered : (at : At) (op : Compound) (plain : Plain) (args each : List Node) (target copy first there second behind : Node) (all : Trees) → plain ≡ compound_operator op → length args ≡ 2 → trees_of each ≡ named_all (trees_of args)
     → target ≡ get_or each 0 target → node_tree copy ≡ node_tree target → first ≡ get_or each 0 first → node_tree there ≡ given (node_tree first) → second ≡ get_or (set each 0 there) 1 second → node_tree behind ≡ given (node_tree second)
     → all ≡ joined (trees_of (set (set each 0 there) 1 behind)) (last_target (row_of plain).targets (node_tree copy)) → form at (Op.Plain plain) all no_trees ≡ named (form at (Op.Symbolic (S.AssignBy op)) (trees_of args) no_trees)
 compound_lowered at op plain args each target copy first there second behind all op_is long low target_is copied first_is there_is second_is behind_is all_are =

@@ -7,9 +7,9 @@ use Rattle.acpi_state.specs.Forms.{LocalSlot, ArgSlot}
 use Rattle.asl_tree.specs.declared.term.Compound.{Compound}
 use Rattle.asl_tree.specs.declared.term.Op.{Op}
 use Rattle.asl_tree.specs.declared.term.Symbolic.TheVariants as Symbolic
-use Rattle.asl_tree.specs.Tree.{At, Tree, Integer, InSlot, Omitted, Apply, Return, If, ElseIf, Else, Assigned, AssignedBy, Trees, no_trees, tree}
+use Rattle.asl_tree.specs.Tree.{At, Tree, Integer, InSlot, Omitted, Apply, Assigned, AssignedBy, Trees, no_trees, tree}
 use Rattle.asl_tree.specs.View.{form}
-use Rattle.asl_lower.specs.Nodes.{named, named_all}
+use Rattle.asl_lower.specs.Nodes.{named}
 
 -- which node a form is makes no difference here
 abbrev here : At
@@ -77,8 +77,3 @@ divided = refl
 element : named (Assigned (form here (Op.Symbolic (Symbolic.Operator (Plain.Data DataOp.Index))) (two (local 0) (Integer 1)) no_trees) (local 2))
     ≡ store (local 2) (Apply (Plain.Data DataOp.Index) (two (local 0) (Integer 1)) (one Omitted))
 element = refl
-
--- If (Local0) {} ElseIf (Local1) {} ElseIf (Local2) {} Else {Return (1)} Return (2)
-branches : named_all (tree (If (local 0) no_trees) (tree (ElseIf (local 1) no_trees) (tree (ElseIf (local 2) no_trees) (tree (Else (one (Return (Integer 1)))) (one (Return (Integer 2)))))))
-    ≡ tree (If (local 0) no_trees) (tree (Else (tree (If (local 1) no_trees) (one (Else (tree (If (local 2) no_trees) (one (Else (one (Return (Integer 1)))))))))) (one (Return (Integer 2))))
-branches = refl

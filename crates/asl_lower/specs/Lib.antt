@@ -1,4 +1,3 @@
 pub mod Kinds
 pub mod Nests
 pub mod Nodes
-pub mod Places

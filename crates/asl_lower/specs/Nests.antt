@@ -1,22 +1,8 @@
--- An ElseIf before other terms, in parts.
+-- Lists of terms that are put together, and nodes that stand backwards.
 use Rattle.std.specs.Prelude.{reverse, List}
-use Rattle.asl_tree.specs.Tree.{Tree, If, ElseIf, Else, Trees, no_trees, tree}
+use Rattle.asl_tree.specs.Tree.{Trees, no_trees, tree}
 use Rattle.asl_tree.specs.View.{trees_of}
 use Rattle.asl_tree.specs.declared.term.Node.{Node}
-
--- an ElseIf as an If
-abbrev pub if_of : Tree → Tree
-if_of (ElseIf test body) = If test body
-if_of term = term
-
--- the Else that stands first, and those behind it
-abbrev pub first_else : Trees → Trees
-first_else (tree (Else body) rest) = tree (Else body) no_trees
-first_else terms = no_trees
-
-abbrev pub behind_else : Trees → Trees
-behind_else (tree (Else body) rest) = rest
-behind_else terms = terms
 
 -- some trees and others behind them
 abbrev pub joined : Trees → Trees → Trees

@@ -1,4 +1,4 @@
--- A program with its symbolic operators named and its ElseIfs nested (ACPI Specification 6.4, 19.2.6 and 19.6).
+-- A program with its symbolic operators named (ACPI Specification 6.4, 19.2.6 and 19.6).
 use Rattle.std.specs.Prelude.{ℕ, zero, suc, Bool, true, false, Option, Some, None}
 use Rattle.acpi_values.specs.declared.operator.Plain.{Plain}
 use Rattle.acpi_values.specs.declared.operator.DataOp.TheVariants as DataOp
@@ -49,27 +49,16 @@ assigned o args target value = Apply (assigned_operator o) (assigned_operands o 
 abbrev pub assigned_by : Compound → Tree → Tree → Tree
 assigned_by op target value = applied (compound_operator op) (tree (given target) (tree (given value) no_trees)) target
 
--- a term before those behind it: an ElseIf is an If in an Else, into which it takes the Else behind it
-abbrev pub before : Tree → Trees → Trees
-before (ElseIf test body) (tree (Else other) rest) = tree (Else (tree (If test body) (tree (Else other) no_trees))) rest
-before (ElseIf test body) rest = tree (Else (tree (If test body) no_trees)) rest
-before term rest = tree term rest
-
--- a list of terms, from its last on
-abbrev pub nested : Trees → Trees
-nested no_trees = no_trees
-nested (tree term terms) = before term (nested terms)
-
 abbrev mutual
   pub named : Tree → Tree
-  named (Call at name args) = Call at name (named_args args)
-  named (Apply op args targets) = Apply op (named_args args) (named_args targets)
-  named (Operated op args) = applied op (named_args args) Omitted
+  named (Call at name args) = Call at name (named_all args)
+  named (Apply op args targets) = Apply op (named_all args) (named_all targets)
+  named (Operated op args) = applied op (named_all args) Omitted
   named (Assigned target value) = assigned (target_operator value) (inner_args value) (named target) (named value)
   named (AssignedBy op target value) = assigned_by op (named target) (named value)
   named (Buffer size bytes) = Buffer (named size) bytes
-  named (Package n elements) = Package n (named_args elements)
-  named (VarPackage size elements) = VarPackage (named size) (named_args elements)
+  named (Package n elements) = Package n (named_all elements)
+  named (VarPackage size elements) = VarPackage (named size) (named_all elements)
   named (CondRefOf place target) = CondRefOf (named place) (named target)
   named (Return value) = Return (named value)
   named (Name at name value) = Name at name (named value)
@@ -81,33 +70,28 @@ abbrev mutual
   named (Else body) = Else (named_all body)
   named (While test body) = While (named test) (named_all body)
   named (For start test step body) = For (named start) (named test) (named step) (named_all body)
-  named (Print place format args) = Print (named place) format (named_args args)
+  named (Print place format args) = Print (named place) format (named_all args)
   named (Switch value cases) = Switch (named value) (named_all cases)
   named (Case value body) = Case (named value) (named_all body)
   named (Default body) = Default (named_all body)
-  named (OperationRegion at name space args) = OperationRegion at name space (named_args args)
+  named (OperationRegion at name space args) = OperationRegion at name space (named_all args)
   named (BankField here from region to bank value flags items) = BankField here from region to bank (named value) flags items
-  named (CreateField form args at name) = CreateField form (named_args args) at name
+  named (CreateField form args at name) = CreateField form (named_all args) at name
   named term = term
 
   -- the operands of a symbolic operator
   pub inner_args : Tree → Trees
-  inner_args (Operated op args) = named_args args
+  inner_args (Operated op args) = named_all args
   inner_args _ = no_trees
 
-  -- terms each by itself: arguments, and the elements of a Package
-  pub named_args : Trees → Trees
-  named_args no_trees = no_trees
-  named_args (tree term terms) = tree (named term) (named_args terms)
-
-  -- the terms of a list
+  -- terms each by itself
   pub named_all : Trees → Trees
   named_all no_trees = no_trees
-  named_all (tree term terms) = before (named term) (named_all terms)
+  named_all (tree term terms) = tree (named term) (named_all terms)
 
 -- what stands in the braces of a form: terms, the elements of a Package, or what is kept as it is
 abbrev pub named_body : Op → Trees → Trees
-named_body (Op.Special Special.Package) body = named_args body
+named_body (Op.Special Special.Package) body = named_all body
 named_body (Op.Declaration Declaration.Method) body = named_all body
 named_body (Op.Declaration Declaration.Device) body = named_all body
 named_body (Op.Declaration Declaration.ThermalZone) body = named_all body

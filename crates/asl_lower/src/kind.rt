@@ -11,13 +11,11 @@ ghost use Rattle.asl_lower.specs.Kinds.{flagged, shape_kind};
 use acpi_names::part::{Shape, shape_of};
 use acpi_values::operator::{DataOp, IntOp, Plain};
 use asl_operators::rows::letters;
-use asl_tree::term::{Control, Node, Op, Symbolic, Term};
+use asl_tree::term::{Node, Op, Symbolic, Term};
 
 /// What a term is for lowering.
 #[derive(Clone, Copy, PartialEq, Eq, Debug)]
 pub enum TermRole {
-    ElseIf,
-    Else,
     /// A symbolic operator that an assignment gives its target.
     Operated(Plain),
     Other,
@@ -97,8 +95,6 @@ fn form_kind(op: Op, args: &[Node], body: &[Node]) -> TermRole
     ensures { result ≡ shape_kind (OfForm op (trees_of args.now) (trees_of body.now)) }
 {
     match op {
-        Op::Control(Control::ElseIf) => flag(are(args, 1), TermRole::ElseIf),
-        Op::Control(Control::Else) => flag(are(args, 0), TermRole::Else),
         Op::Symbolic(Symbolic::Operator(op)) => flag(
             are(body, 0) && fit(op, args),
             flag(takes_target(op), TermRole::Operated(op)),

@@ -1,4 +1,4 @@
-//! What holds of every program and the same one with its symbolic operators named and its ElseIfs nested.
+//! What holds of every program and the same one with its symbolic operators named.
 ghost use Rattle.std.specs.Prelude.{◌≡◌, ℕ, List};
 ghost use Rattle.acpi_values.specs.declared.width.Width.{Width};
 ghost use Rattle.acpi_values.specs.Values.{Value};
@@ -9,7 +9,7 @@ ghost use Rattle.asl_tree.specs.Tree.{Trees};
 ghost use Rattle.asl_meaning.specs.SourceSession.{source_session};
 ghost use Rattle.asl_lower.specs.Nodes.{named_all};
 
-/// A program has the same sessions with its symbolic operators named and its ElseIfs nested.
+/// A program has the same sessions with its symbolic operators named.
 pub fn same_sessions()
     ensures { (width : Width) (known : Known) (terms : Trees) (there : Names) (n : ℕ) (answers : List Value) (requests : List Request)
         → source_session width known (named_all terms) there n answers requests

@@ -1,8 +1,7 @@
-//! Symbolic operators to named ones, and each run of ElseIfs to nested Elses.
+//! Symbolic operators to named ones.
 #![tactic(auto)]
 
 mod copy;
 pub mod kind;
 pub mod laws;
 pub mod lower;
-mod nest;

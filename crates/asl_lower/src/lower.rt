@@ -1,5 +1,5 @@
-//! A program with its symbolic operators named (ACPI Specification 6.4, 19.2.6) and its ElseIfs nested (19.6.40).
-ghost use Rattle.std.specs.Prelude.{◌≡◌, ◌≤◌, ◌∷◌, [], length, true, OnOk, IfOk};
+//! A program with its symbolic operators named (ACPI Specification 6.4, 19.2.6).
+ghost use Rattle.std.specs.Prelude.{◌≡◌, ◌≤◌, ◌∷◌, [], if◌then◌else◌, length, true, false, OnOk, IfOk};
 ghost use Rattle.acpi_values.specs.Operators.{row_of};
 ghost use Rattle.acpi_names.specs.Parts.{term_size, nodes_size};
 ghost use Rattle.acpi_names.specs.Walked.{term_shape, node_tree};
@@ -7,17 +7,14 @@ ghost use Rattle.asl_tree.specs.Symbols.{compound_operator};
 ghost use Rattle.asl_tree.specs.Tree.{At, Omitted, no_trees};
 ghost use Rattle.asl_tree.specs.View.{form, tree_of, trees_of};
 ghost use Rattle.asl_tree.specs.declared.term.Op.{Op as O};
-ghost use Rattle.iasl_messages.specs.declared.place.Place.{Place as Here};
 ghost use Rattle.asl_tree.specs.declared.term.Symbolic.TheVariants as S;
 ghost use Rattle.asl_lower.specs.Kinds.{shape_args};
 ghost use Rattle.asl_lower.specs.Nests.{joined};
-ghost use Rattle.asl_lower.specs.Nodes.{given as given_tree, last_target, named, named_args, named_all, named_body};
-ghost use Rattle.asl_lower.specs.Places.{form_places, has_terms, lowered_at, lowered_places, nested_at, nested_places, StandsAlone};
-ghost use Rattle.term_places.specs.Places.{places_of};
+ghost use Rattle.asl_lower.specs.Nodes.{given as given_tree, last_target, named, named_all, named_body};
+ghost use Rattle.term_places.specs.Places.{holds_terms, term_places, places_of};
 
 use crate::copy::copied;
 use crate::kind::{TermRole, fit, kind_of, targets};
-use crate::nest::nest;
 use acpi_values::operator::{DataOp, IntOp, Plain};
 use asl_tree::term::{Compound, Control, Declaration, Node, Op, Special, Symbolic, Term};
 use iasl_messages::place::Place;
@@ -45,8 +42,7 @@ fn compound(op: Compound) -> Plain
 // A form with no body.
 #[tactic(auto, using(crate::proofs::Lowered::bare_form))]
 fn bare(alloc: Global, op: Op, args: Vec<Node>) -> Term
-    ensures tree { (at : At) → tree_of at result ≡ form at op (trees_of args.items) no_trees }
-    ensures places { (here : Here) → nested_at here result ≡ form_places op (trees_of args.items) here [] }
+    ensures { (at : At) → tree_of at result ≡ form at op (trees_of args.items) no_trees }
 {
     Term::Form {
         op,
@@ -131,33 +127,22 @@ fn put_omitted(op: Plain, args: &mut Vec<Node>, id: u32, place: Place) -> Result
     Ok(())
 }
 
-/// The program in which each symbolic operator and assignment is an operator with a name (ACPI Specification 6.4, 19.2.6), and
-/// each ElseIf is an If in an Else (19.6.40). A node that is made has the id and the place of the one that it stands for.
+/// The program in which each symbolic operator and assignment is an operator with a name (ACPI Specification 6.4, 19.2.6). A node that
+/// is made has the id and the place of the one that it stands for.
 pub fn lower(alloc: Global, terms: Vec<Node>) -> Result<Vec<Node>, AllocError>
     ensures trees { IfOk result (λ lowered. trees_of lowered.items ≡ named_all (trees_of terms.items)) }
-    ensures places { IfOk result (λ lowered. places_of lowered.items ≡ lowered_places terms.items) }
+    ensures places { IfOk result (λ lowered. places_of lowered.items ≡ places_of terms.items) }
 {
     let mut lowered = terms;
-    lower_list(alloc, &mut lowered)?;
+    lower_each(alloc, &mut lowered)?;
     Ok(lowered)
-}
-
-// The terms of a list.
-#[cycle(lower)]
-fn lower_list(alloc: Global, terms: &mut Vec<Node>) -> Result<(), AllocError>
-    ensures trees { OnOk result (trees_of terms.new.items ≡ named_all (trees_of terms.old.items)) }
-    ensures places { OnOk result (places_of terms.new.items ≡ lowered_places terms.old.items) }
-{
-    lower_each(alloc, terms)?;
-    nest(alloc, terms)?;
-    Ok(())
 }
 
 // Terms each by itself.
 #[cycle(lower)]
 fn lower_each(alloc: Global, nodes: &mut Vec<Node>) -> Result<(), AllocError>
-    ensures trees { OnOk result (trees_of nodes.new.items ≡ named_args (trees_of nodes.old.items)) }
-    ensures places { OnOk result (nested_places nodes.new.items ≡ lowered_places nodes.old.items) }
+    ensures trees { OnOk result (trees_of nodes.new.items ≡ named_all (trees_of nodes.old.items)) }
+    ensures places { OnOk result (places_of nodes.new.items ≡ places_of nodes.old.items) }
 {
     for node in nodes.iter_mut() {
         lower_node(alloc, node)?;
@@ -169,7 +154,7 @@ fn lower_each(alloc: Global, nodes: &mut Vec<Node>) -> Result<(), AllocError>
 #[inline(always)]
 fn lower_node(alloc: Global, node: &mut Node) -> Result<(), AllocError>
     ensures tree { OnOk result (node_tree node.new ≡ named (node_tree node.old)) }
-    ensures places { OnOk result (nested_at node.new.place node.new.term ≡ lowered_at node.old.place node.old.term) }
+    ensures places { OnOk result (term_places node.new ≡ term_places node.old) }
 {
     let id = node.id;
     let place = node.place;
@@ -199,8 +184,8 @@ fn lower_form(
 ) -> Result<(), AllocError>
     ensures tree { OnOk result ((at : At) → form at op.new (trees_of args.new.items) (trees_of body.new.items)
         ≡ named (form at op.old (trees_of args.old.items) (trees_of body.old.items))) }
-    ensures places { OnOk result ((here : Here) → form_places op.new (trees_of args.new.items) here (places_of body.new.items)
-        ≡ form_places op.old (trees_of args.old.items) here (lowered_places body.old.items)) }
+    ensures places { OnOk result ((if holds_terms op.new then places_of body.new.items else [])
+        ≡ (if holds_terms op.old then places_of body.old.items else [])) }
 {
     match *op {
         Op::Symbolic(symbol) => {
@@ -223,14 +208,11 @@ fn lower_form(
 #[cycle(lower)]
 fn lower_body(alloc: Global, op: Op, body: &mut Vec<Node>) -> Result<(), AllocError>
     ensures trees { OnOk result (trees_of body.new.items ≡ named_body op (trees_of body.old.items)) }
-    ensures places { OnOk result (has_terms op ≡ true → places_of body.new.items ≡ lowered_places body.old.items) }
+    ensures places { OnOk result (holds_terms op ≡ true → places_of body.new.items ≡ places_of body.old.items) }
 {
     match op {
-        Op::Special(Special::Package) => {
-            lower_each(alloc, body)?;
-            Ok(())
-        }
-        Op::Declaration(
+        Op::Special(Special::Package)
+        | Op::Declaration(
             Declaration::Method
             | Declaration::Device
             | Declaration::ThermalZone
@@ -248,7 +230,7 @@ fn lower_body(alloc: Global, op: Op, body: &mut Vec<Node>) -> Result<(), AllocEr
             | Control::Case
             | Control::Default,
         ) => {
-            lower_list(alloc, body)?;
+            lower_each(alloc, body)?;
             Ok(())
         }
         _ => Ok(()),
@@ -266,7 +248,7 @@ fn lower_symbol(
 ) -> Result<Op, AllocError>
     ensures tree { IfOk result (λ op. (at : At) → form at op (trees_of args.new.items) no_trees
         ≡ named (form at (O.Symbolic symbol) (trees_of args.old.items) no_trees)) }
-    ensures alone { IfOk result StandsAlone }
+    ensures alone { IfOk result (λ op. holds_terms op ≡ false) }
 {
     match symbol {
         Symbolic::Operator(op) => {
@@ -294,7 +276,7 @@ fn lower_operator(
 ) -> Result<Op, AllocError>
     ensures tree { IfOk result (λ made. (at : At) → form at made (trees_of args.new.items) no_trees
         ≡ named (form at (O.Symbolic (S.Operator op)) (trees_of args.old.items) no_trees)) }
-    ensures alone { IfOk result StandsAlone }
+    ensures alone { IfOk result (λ op. holds_terms op ≡ false) }
 {
     if !fit(op, args) {
         return Ok(Op::Symbolic(Symbolic::Operator(op)));
@@ -309,7 +291,7 @@ fn lower_operator(
 fn lower_assignment(alloc: Global, args: &mut Vec<Node>) -> Result<Op, AllocError>
     ensures tree { IfOk result (λ made. (at : At) → form at made (trees_of args.new.items) no_trees
         ≡ named (form at (O.Symbolic S.Assign) (trees_of args.old.items) no_trees)) }
-    ensures alone { IfOk result StandsAlone }
+    ensures alone { IfOk result (λ op. holds_terms op ≡ false) }
 {
     if args.len() != 2 {
         return Ok(Op::Symbolic(Symbolic::Assign));
@@ -340,7 +322,7 @@ fn lower_assignment(alloc: Global, args: &mut Vec<Node>) -> Result<Op, AllocErro
 fn lower_compound(alloc: Global, op: Compound, args: &mut Vec<Node>) -> Result<Op, AllocError>
     ensures tree { IfOk result (λ made. (at : At) → form at made (trees_of args.new.items) no_trees
         ≡ named (form at (O.Symbolic (S.AssignBy op)) (trees_of args.old.items) no_trees)) }
-    ensures alone { IfOk result StandsAlone }
+    ensures alone { IfOk result (λ op. holds_terms op ≡ false) }
 {
     if args.len() != 2 {
         return Ok(Op::Symbolic(Symbolic::AssignBy(op)));

@@ -5,7 +5,7 @@ use Rattle.std.proofs.lemmas.List.{take_all, drop_all}
 use Rattle.asl_tree.specs.declared.term.Node.{Node}
 use Rattle.asl_tree.specs.Tree.{At, Trees, no_trees, tree}
 use Rattle.asl_tree.specs.View.{tree_of, trees_of}
-use Rattle.asl_terms.specs.Plans.{plan, plan_of, plans_of}
+use Rattle.term_plans.specs.Plans.{plan, plan_of, plans_of}
 use Rattle.asl_numbers.specs.Numbers.{inside, nodes, numbered, numbered_all}
 
 -- trees behind those of some nodes

@@ -9,8 +9,8 @@ use Rattle.asl_tree.specs.declared.term.Term as D
 use Rattle.asl_tree.specs.declared.term.Term.TheVariants as V
 use Rattle.asl_tree.specs.Tree.{At, Call, tree}
 use Rattle.asl_tree.specs.View.{form, tree_of, row_trees, trees_of}
-use Rattle.asl_terms.specs.Plans.{Plans, a_call, a_form, plan_of, plans_of}
-use Rattle.asl_terms.proofs.Plans.{plan_call, plan_form}
+use Rattle.term_plans.specs.Plans.{Plans, a_call, a_form, plan_of, plans_of}
+use Rattle.term_plans.proofs.Plans.{plan_call, plan_form}
 use Rattle.asl_numbers.specs.Numbers.{inside, nodes, numbered, numbered_all}
 
 rows : (m : _) (row : D.Row_of-Node m) → row_trees row ≡ trees_of (D.items-the_row-Node m row)

@@ -5,8 +5,8 @@ use Rattle.asl_tree.specs.FieldItems.{UnitItem, SkipItem, OffsetItem, AccessItem
 use Rattle.asl_tree.specs.Literals.{word_number}
 use Rattle.asl_tree.specs.Tree.{At, Tree, Integer, String, InSlot, Debug, Omitted, Use, Call, Fill, Item, Trees, no_trees, tree}
 use Rattle.asl_tree.specs.View.{form}
-use Rattle.asl_terms.specs.Plans.{Plan, an_integer, a_text, a_fill, a_word, a_local, an_arg, debug, omitted, a_name, a_unit, a_skip}
-use Rattle.asl_terms.specs.Plans.{an_offset, an_access, a_call, a_form, Plans, no_plans, plan}
+use Rattle.term_plans.specs.Plans.{Plan, an_integer, a_text, a_fill, a_word, a_local, an_arg, debug, omitted, a_name, a_unit, a_skip}
+use Rattle.term_plans.specs.Plans.{an_offset, an_access, a_call, a_form, Plans, no_plans, plan}
 
 -- how many nodes stand inside a term, and how many some terms have
 abbrev mutual

@@ -1,8 +1,9 @@
 //! An operator between two operands, which is read with its last operand where that is one token.
-ghost use Rattle.std.specs.Prelude.{◌≡◌, ◌+◌, ◌^◌, ◌<◌, length, get_or, IfOk, OnOk};
+ghost use Rattle.std.specs.Prelude.{◌≡◌, ◌+◌, ◌^◌, ◌<◌, length, get_or, IfOk, OnOk, true};
 ghost use Rattle.asl_syntax.specs.Grow.{limit, no_subtrees};
 ghost use Rattle.asl_syntax.specs.Frames.{depth};
 ghost use Rattle.asl_syntax.specs.Marks.{mark, marks, lexeme};
+ghost use Rattle.asl_syntax.specs.Marks as token;
 ghost use Rattle.asl_syntax.specs.Opens.{IsOne};
 ghost use Rattle.asl_parser.specs.Operating as spec;
 ghost use Rattle.asl_parser.specs.Operating.{AppliesNode, MayOperate, MayBracket};
@@ -10,7 +11,7 @@ ghost use Rattle.asl_parser.specs.Pairs.{plain};
 ghost use Rattle.asl_syntax.specs.declared.mark.Lexeme.TheVariants as lexemes;
 ghost use Rattle.asl_syntax.specs.declared.sign.Sign.TheVariants as signs;
 
-use crate::plain::{hold_plain, is_plain};
+use crate::plain::{hold_leaf, is_plain};
 use crate::settle::settle;
 use crate::state::Refusal;
 use asl_lexer::token::Token;
@@ -43,14 +44,12 @@ fn apply_plain(
     number: u32,
     operand: &Token,
 ) -> Result<(), AllocError>
+    requires leaf { token.is_plain operand.now.kind ≡ true }
     requires one { IsOne stack.old.0 }
     ensures { OnOk result (AppliesNode (plain (mark number operand.now)) spot op stack.old stack.new) }
 {
     let first = stack.leading_held(spot.token);
-    // It is one: `operate` asks before it changes anything.
-    if !hold_plain(stack, number, operand)? {
-        return Err(AllocError);
-    }
+    hold_leaf(stack, number, operand)?;
     stack.apply(first, spot, op)?;
     Ok(())
 }
@@ -122,10 +121,7 @@ pub fn bracket(
     let Some(_strength) = strength_of(op) else {
         return Ok(false);
     };
-    // They are expressions: that was asked.
-    if !hold_plain(stack, at as u32 + 1, left)? {
-        return Err(AllocError);
-    }
+    hold_leaf(stack, at as u32 + 1, left)?;
     let spot = Spot {
         token: at as u32 + 2,
         place: sign.place,

@@ -107,7 +107,7 @@ fn argument_ends<'a>(
 {
     if add_plain(stack, number, first)? {
         let FrameKind::Args { spot, word } = stack.end() else {
-            return Err(AllocError);
+            unreachable!();
         };
         set_called(stage, spot, word);
         return Ok(true);

@@ -1,5 +1,5 @@
 //! Tokens that are expressions by themselves.
-ghost use Rattle.std.specs.Prelude.{◌≡◌, None, IfOk, OnOk, is_some};
+ghost use Rattle.std.specs.Prelude.{◌≡◌, None, IfOk, OnOk, is_some, true};
 ghost use Rattle.asl_syntax.specs.Grow.{joined, item};
 ghost use Rattle.asl_syntax.specs.Marks as spec;
 ghost use Rattle.asl_syntax.specs.Marks.{mark};
@@ -21,32 +21,44 @@ fn hold_word(stack: &mut Stack<'_>, number: u32, token: &Token) -> Result<(), Al
     Ok(())
 }
 
-/// Holds the tree of a token that is an expression by itself behind what is held. Answers whether it is one.
-pub fn hold_plain(stack: &mut Stack<'_>, number: u32, token: &Token) -> Result<bool, AllocError>
-    ensures { IfOk result (λ is_plain. HoldsNode is_plain (plain (mark number token.now)) stack.old stack.new) }
+/// Holds the tree of a token that is an expression by itself behind what is held.
+pub fn hold_leaf(stack: &mut Stack<'_>, number: u32, token: &Token) -> Result<(), AllocError>
+    requires { spec.is_plain token.now.kind ≡ true }
+    ensures { OnOk result (HoldsNode true (plain (mark number token.now)) stack.old stack.new) }
 {
     let place = token.place;
     match token.kind {
         TokenKind::Word => {
             hold_word(stack, number, token)?;
-            Ok(true)
+            Ok(())
         }
         TokenKind::Path => {
             hold_word(stack, number, token)?;
-            Ok(true)
+            Ok(())
         }
         TokenKind::Number => {
             let value = token.number;
             stack.hold_behind(number, number_node(place, value))?;
-            Ok(true)
+            Ok(())
         }
         TokenKind::Text => {
             let text = stack.copy(&token.text)?;
             stack.hold_behind(number, text_node(place, text))?;
-            Ok(true)
+            Ok(())
         }
-        TokenKind::Symbol => Ok(false),
+        TokenKind::Symbol => unreachable!(),
     }
+}
+
+/// Holds the tree of a token behind what is held, where it is an expression by itself. Answers whether it is one.
+pub fn hold_plain(stack: &mut Stack<'_>, number: u32, token: &Token) -> Result<bool, AllocError>
+    ensures { IfOk result (λ is_plain. HoldsNode is_plain (plain (mark number token.now)) stack.old stack.new) }
+{
+    if !is_plain(token.kind) {
+        return Ok(false);
+    }
+    hold_leaf(stack, number, token)?;
+    Ok(true)
 }
 
 /// Whether a token of this kind is an expression by itself. Where it is none, the token is read by the way of all expressions.

@@ -3,13 +3,13 @@ use Rattle.std.proofs.Common.{◌≡◌, ℕ, suc, ◌+◌, ◌<◌, List, [], �
 use Rattle.asl_tree.specs.declared.term.Node.{Node}
 use Rattle.asl_tree.specs.Tree.{no_trees, tree}
 use Rattle.asl_tree.specs.View.{trees_of}
-use Rattle.asl_terms.specs.Plans.{no_plans, plan, join, plan_of, plans_of}
+use Rattle.term_plans.specs.Plans.{no_plans, plan, join, plan_of, plans_of}
 use Rattle.asl_prints.specs.Forms.{followed}
 use Rattle.asl_prints.specs.Nodes.{node_tree}
 use Rattle.asl_prints.specs.PlanParts.{placed}
 use Rattle.asl_prints.proofs.Nodes.{behind_all, take_next, form_tree, call_tree}
 use Rattle.asl_prints.proofs.PlanNodes.{behind, same_place, taken_next}
-use Rattle.asl_terms.proofs.Plans.{plan_form, plan_call}
+use Rattle.term_plans.proofs.Plans.{plan_form, plan_call}
 use Rattle.asl_prints.proofs.NodeNumbers.{numbers_form, numbers_call}
 
 pub next_copied : (nodes old new : List Node) (i : ℕ) (node copy : Node) → i < length nodes → node ≡ get_or nodes i node → trees_of old ≡ trees_of (take i nodes) → node_tree copy ≡ node_tree node → new ≡ old ++ copy ∷ []

@@ -2,7 +2,7 @@
 use Rattle.std.proofs.Common.{◌≡◌, ℕ, zero, suc, ◌+◌, ◌<◌, List, [], ◌∷◌, ◌++◌, length, take, get_or, refl, ap, ◌∙◌, arith}
 use Rattle.iasl_messages.specs.declared.place.Place.{Place}
 use Rattle.asl_tree.specs.declared.term.Node.{Node}
-use Rattle.asl_terms.specs.Plans.{Plan, Plans, no_plans, plan, join, plan_of, plans_of}
+use Rattle.term_plans.specs.Plans.{Plan, Plans, no_plans, plan, join, plan_of, plans_of}
 use Rattle.asl_prints.specs.PlanParts.{placed}
 use Rattle.asl_prints.proofs.Nodes.{take_next}
 

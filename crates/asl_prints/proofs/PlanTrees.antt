@@ -18,7 +18,7 @@ use Rattle.asl_tree.specs.declared.term.Symbolic.TheVariants as Symbolic
 use Rattle.asl_tree.specs.Tree.{At, Tree, Integer, String, InSlot, Debug, Omitted, Use, Call, Fill, Item, Trees, no_trees, tree, count}
 use Rattle.asl_tree.specs.View.{fits, form, tree_of, row_trees, trees_of}
 use Rattle.asl_meaning.specs.Continues as T
-use Rattle.asl_terms.specs.Plans.{Plan, an_integer, a_text, a_fill, a_word, a_local, an_arg, debug, omitted, a_name, a_unit, a_skip, an_offset, an_access, a_call, a_form, Plans, no_plans, plan, how_many, plan_of, row_plans, plans_of}
+use Rattle.term_plans.specs.Plans.{Plan, an_integer, a_text, a_fill, a_word, a_local, an_arg, debug, omitted, a_name, a_unit, a_skip, an_offset, an_access, a_call, a_form, Plans, no_plans, plan, how_many, plan_of, row_plans, plans_of}
 use Rattle.asl_prints.specs.Forms as F
 use Rattle.asl_prints.specs.Nodes.{is_continue, none_in}
 use Rattle.asl_prints.specs.Texts.{is_text}

@@ -12,8 +12,8 @@ use Rattle.asl_tree.specs.declared.term.Term as D
 use Rattle.asl_tree.specs.Formats.{cut}
 use Rattle.asl_tree.specs.Tree.{Tree, String, Trees, no_trees, tree}
 use Rattle.asl_tree.specs.View.{trees_of}
-use Rattle.asl_terms.specs.Plans.{Plan, a_text, debug, omitted, a_form, Plans, no_plans, plan, plan_of, plans_of}
-use Rattle.asl_terms.proofs.Plans.{plan_form}
+use Rattle.term_plans.specs.Plans.{Plan, a_text, debug, omitted, a_form, Plans, no_plans, plan, plan_of, plans_of}
+use Rattle.term_plans.proofs.Plans.{plan_form}
 use Rattle.asl_prints.specs.Nodes.{CanPrint, IsPrint}
 use Rattle.asl_prints.specs.Texts.{all_texts}
 use Rattle.asl_prints.specs.Plans.{operator, concatenated, with_text, with_arguments, is_filled, print_plan, spread}

@@ -7,7 +7,7 @@ use Rattle.asl_tree.specs.declared.term.Node.{Node}
 use Rattle.asl_tree.specs.declared.term.Term.{Term}
 use Rattle.asl_tree.specs.declared.term.Term as D
 use Rattle.asl_tree.specs.View.{trees_of}
-use Rattle.asl_terms.specs.Plans.{plan, plan_of, plans_of, text_of}
+use Rattle.term_plans.specs.Plans.{plan, plan_of, plans_of, text_of}
 use Rattle.asl_prints.specs.Nodes.{IsPrint}
 use Rattle.asl_prints.specs.Texts.{all_texts}
 use Rattle.asl_prints.specs.PlanParts.{fills, prints}

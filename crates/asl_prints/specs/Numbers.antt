@@ -8,7 +8,7 @@ use Rattle.asl_tree.specs.declared.term.Op.{Op}
 use Rattle.asl_tree.specs.declared.term.Node.{Node}
 use Rattle.asl_tree.specs.declared.term.Term.{Term}
 use Rattle.asl_tree.specs.declared.term.Term as D
-use Rattle.asl_terms.specs.Plans.{text_of, plan_of}
+use Rattle.term_plans.specs.Plans.{text_of, plan_of}
 use Rattle.asl_prints.specs.Nodes.{goes_in}
 use Rattle.asl_prints.specs.PlanParts.{is_continue}
 

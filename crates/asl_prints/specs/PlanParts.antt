@@ -6,7 +6,7 @@ use Rattle.asl_tree.specs.declared.term.Control.TheVariants as Control
 use Rattle.asl_tree.specs.declared.term.Op.{Op}
 use Rattle.asl_tree.specs.declared.term.Node.{Node}
 use Rattle.asl_tree.specs.Formats.{cut}
-use Rattle.asl_terms.specs.Plans.{Plan, a_text, a_form, debug, omitted, Plans, no_plans, plan, plan_of}
+use Rattle.term_plans.specs.Plans.{Plan, a_text, a_form, debug, omitted, Plans, no_plans, plan, plan_of}
 use Rattle.asl_prints.specs.Plans.{operator, with_arguments, is_filled}
 
 -- a node: its place and its plan

@@ -11,8 +11,8 @@ use Rattle.asl_tree.specs.declared.term.Special.TheVariants as Special
 use Rattle.asl_tree.specs.declared.term.Symbolic.TheVariants as Symbolic
 use Rattle.asl_tree.specs.declared.term.Op.{Op}
 use Rattle.asl_tree.specs.Formats.{cut}
-use Rattle.asl_terms.specs.Plans.{Plan, an_integer, a_text, a_fill, a_word, debug, omitted, a_name, a_unit, a_skip, an_offset, an_access}
-use Rattle.asl_terms.specs.Plans.{a_call, a_form, Plans, no_plans, plan, join, how_many}
+use Rattle.term_plans.specs.Plans.{Plan, an_integer, a_text, a_fill, a_word, debug, omitted, a_name, a_unit, a_skip, an_offset, an_access}
+use Rattle.term_plans.specs.Plans.{a_call, a_form, Plans, no_plans, plan, join, how_many}
 use Rattle.asl_prints.specs.Nodes.{goes_in, has_terms}
 use Rattle.asl_prints.specs.Fits.{braced}
 use Rattle.asl_prints.specs.declared.leave.Braces.{Braces}

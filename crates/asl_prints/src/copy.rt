@@ -3,7 +3,7 @@ ghost use Rattle.std.specs.Prelude.{◌≡◌, ◌∷◌, [], IfOk};
 ghost use Rattle.asl_prints.specs.Nodes.{node_tree};
 ghost use Rattle.asl_tree.specs.Tree.{At};
 ghost use Rattle.asl_tree.specs.View.{tree_of, trees_of};
-ghost use Rattle.asl_terms.specs.Plans.{plan_of, plans_of};
+ghost use Rattle.term_plans.specs.Plans.{plan_of, plans_of};
 ghost use Rattle.asl_prints.specs.Numbers.{numbers_in, numbers_of};
 ghost use Rattle.asl_prints.specs.PlanParts.{placed};
 

@@ -4,7 +4,7 @@ ghost use Rattle.asl_tree.specs.Formats.{cut};
 ghost use Rattle.asl_tree.specs.Tree.{no_trees, tree};
 ghost use Rattle.asl_tree.specs.Tree as T;
 ghost use Rattle.asl_tree.specs.View.{trees_of};
-ghost use Rattle.asl_terms.specs.Plans.{a_text, debug as debug_plan, no_plans, plan, plan_of, plans_of};
+ghost use Rattle.term_plans.specs.Plans.{a_text, debug as debug_plan, no_plans, plan, plan_of, plans_of};
 ghost use Rattle.asl_prints.specs.Forms.{concatenated, spread, with_arguments, with_text as tree_with_text};
 ghost use Rattle.asl_prints.specs.Nodes.{node_tree, plain_tree, print_parts, AreGiven, CanPrint, DoTheSame, IsGiven, IsPrint};
 ghost use Rattle.asl_prints.specs.Plans.{concatenated as concatenated_plan, operator as operator_plan, spread as spread_plans};

@@ -12,7 +12,7 @@ use Rattle.asl_syntax.specs.Written.{writtens}
 use Rattle.asl_shape.specs.Shapes.{is_separator, is_comma, run_after, is_text, is_none, default_after}
 use Rattle.word_meanings.specs.Meanings.{meaning_of, run_behind, is_default}
 use Rattle.asl_terms.specs.AtRaw.{is_some}
-use Rattle.asl_shape.specs.AtRaw.{is_separator_at, is_comma_at, run_after_at, is_listed_at, byte_slot_at, is_text_at, due_at}
+use Rattle.asl_shape.specs.AtRaw.{is_separator_at, is_comma_at, run_after_at, is_listed_at, byte_slot_at, is_list_end_at, is_text_at, due_at}
 use Rattle.asl_shape.specs.AtRaw.{default_after_at}
 use Rattle.acpi_state.specs.Outcomes.{choose}
 use Rattle.asl_shape.proofs.ItemLaws.{is_none_short, is_none_long}
@@ -201,11 +201,21 @@ pub bytes_none : byte_slot_at [] ≡ slot.Constant 0 255
 unfolding byte_slot_at writtens
 bytes_none = refl
 
-pub bytes_more : (r : Raw) (rs : List Raw) → byte_slot_at (r ∷ rs) ≡ (if is_none (writtens rs) && is_text_at r then slot.String form.Any else slot.Constant 0 255)
-unfolding byte_slot_at writtens is_text_at
+pub bytes_more : (r : Raw) (rs : List Raw) → byte_slot_at (r ∷ rs) ≡ (if is_list_end_at rs && is_text_at r then slot.String form.Any else slot.Constant 0 255)
+unfolding byte_slot_at writtens is_list_end_at is_text_at
 bytes_more r rs = refl
 
-pub ruleset byte_rules = (bytes_none, bytes_more, is_none_short, is_none_long)
+pub ruleset byte_rules = (bytes_none, bytes_more)
+
+pub end_none : is_list_end_at [] ≡ true
+unfolding is_list_end_at writtens
+end_none = refl
+
+pub end_more : (r : Raw) (rs : List Raw) → is_list_end_at (r ∷ rs) ≡ (is_none (writtens rs) && is_comma_at r)
+unfolding is_list_end_at writtens is_comma_at
+end_more r rs = refl
+
+pub ruleset end_rules = (end_none, end_more, is_none_short, is_none_long)
 
 pub listed_step : (due : Bool) (raws : List Raw) (i : ℕ) (d : Raw) → i < length raws → is_listed_at due (drop i raws) ≡ choose (due_at due (get_or raws i d)) false (λ next. is_listed_at next (drop (i + 1) raws))
 listed_step due raws i d lt = ap (is_listed_at due) (from_item raws i d lt) ∙ listed_more due (get_or raws i d) (drop (i + 1) raws)

@@ -13,10 +13,10 @@ use Rattle.asl_tree.specs.declared.term.Node.{Node}
 use Rattle.resource_layout.specs.declared.descriptor.Field.{Field}
 use Rattle.resource_macros.specs.declared.node.Node.{Node as Given}
 use Rattle.resource_macros.specs.declared.node.Term as R
-use Rattle.asl_terms.specs.Plans.{Plan, a_name, plan_of, plans_of, number_of}
+use Rattle.term_plans.specs.Plans.{Plan, a_name, plan_of, plans_of, number_of}
 use Rattle.asl_shape.specs.Shapes.{named_unit}
 use Rattle.asl_shape.specs.declared.fields.UnitName.{UnitName}
-use Rattle.asl_terms.specs.Plans.{fill_of, named_of}
+use Rattle.term_plans.specs.Plans.{fill_of, named_of}
 use Rattle.asl_shape.specs.Descriptors.{node, argument_term, argument_nodes, member_nodes, fills_of, is_name, segment_of, named_as}
 use Rattle.asl_shape.specs.Descriptors.{own_name, moved, names_from}
 

@@ -12,13 +12,14 @@ use Rattle.word_meanings.specs.declared.meaning.Meaning.TheVariants as is
 use Rattle.word_meanings.specs.Meanings.{meaning_of, is_whole, is_connection}
 use Rattle.asl_shape.specs.declared.fields.Due.{Due}
 use Rattle.asl_syntax.specs.Written.{written, writtens}
-use Rattle.asl_terms.specs.Terms.{nowhere, place_of}
+use Rattle.term_plans.specs.Places.{nowhere}
+use Rattle.asl_terms.specs.Terms.{place_of}
 use Rattle.asl_shape.specs.Shapes.{meaning_in, next_due, may_stop, first_place, inner_place}
 use Rattle.asl_terms.specs.AtRaw.{is_some, inside_at, place_at}
 use Rattle.asl_shape.specs.AtRaw.{is_comma_at, is_separator_at, meaning_at, first_place_at, inner_place_at, element_place_at, goes_on_at}
 use Rattle.asl_shape.specs.AtRaw.{due_behind_at, is_field_list_at}
 use Rattle.asl_syntax.specs.Views.{written_number, written_text, written_item, written_apply, written_list, written_comma, written_semicolon, written_empty}
-use Rattle.asl_terms.proofs.Settled.{join_nothing}
+use Rattle.term_plans.proofs.Lists.{join_nothing}
 use Rattle.asl_terms.proofs.Bracketed.{given_some, from_item, inside_written}
 
 -- ---- what a member is

@@ -9,7 +9,7 @@ use Rattle.asl_shape.specs.declared.fields.Due.{Due}
 use Rattle.asl_shape.specs.declared.fields.UnitName.{UnitName}
 use Rattle.asl_syntax.specs.Written.{writtens}
 use Rattle.word_meanings.specs.Meanings.{slot_as, is_whole}
-use Rattle.asl_terms.specs.Plans.{Plan, omitted, Plans, no_plans, join, number_of}
+use Rattle.term_plans.specs.Plans.{Plan, omitted, Plans, no_plans, join, number_of}
 use Rattle.asl_shape.specs.Shapes
 use Rattle.asl_terms.specs.Terms.{Shaped, fine}
 use Rattle.asl_shape.specs.Shapes.{begin, followed, field_part, no_comma, whole_alone, begun, of_bits, unit_behind}
@@ -18,7 +18,8 @@ use Rattle.asl_shape.specs.AtRaw.{shape_at, bare_at, is_separator_at, elements_a
 use Rattle.asl_shape.specs.AtRaw.{due_behind_at, begin_at, comma_at, bits_at}
 use Rattle.asl_terms.proofs.Terms.{nothing_more}
 use Rattle.asl_terms.proofs.Bracketed.{from_item}
-use Rattle.asl_terms.proofs.Joins.{join_assoc, nothing_behind}
+use Rattle.term_plans.proofs.Lists.{join_assoc}
+use Rattle.asl_terms.proofs.Joins.{nothing_behind}
 
 -- ---- a member, by what is due
 

@@ -1,6 +1,6 @@
 -- Each error of a source stands in a file in which a part of it stands.
 use Rattle.std.proofs.Common.{ℕ, suc, ◌+◌, ◌<◌, Bool, true, false, List, [], ◌∷◌, ◌++◌, Option, Some, None, Result, Ok, Err, arith}
-use Rattle.std.specs.Prelude.{if◌then◌else◌, nat_eq, nat_le, ◌&&◌}
+use Rattle.std.specs.Prelude.{if◌then◌else◌, nat_eq, nat_le, not, ◌&&◌, ◌||◌}
 use Rattle.std.specs.List.{All}
 use Rattle.std.proofs.lemmas.List.Elements.{All-cons}
 use Rattle.iasl_messages.specs.declared.place.Place.{Place}
@@ -31,7 +31,7 @@ use Rattle.acpi_state.specs.Outcomes.{choose}
 use Rattle.acpi_values.specs.declared.width.Width.{Width}
 use Rattle.acpi_values.specs.Paths.{NameSeg}
 use Rattle.asl_tree.specs.Names.{single_segment}
-use Rattle.asl_terms.specs.Plans.{Plan, Plans, no_plans, plan_at, how_many, an_integer, a_name, is_omitted, constant_of}
+use Rattle.term_plans.specs.Plans.{Plan, Plans, no_plans, plan_at, how_many, an_integer, a_name, is_omitted, constant_of}
 use Rattle.asl_words.specs.Paths.{path_of}
 use Rattle.asl_words.specs.declared.operator.FieldWord.{FieldWord}
 use Rattle.word_meanings.specs.declared.meaning.Meaning.{Meaning}
@@ -40,10 +40,11 @@ use Rattle.asl_words.specs.Operators.{body_as}
 use Rattle.acpi_values.specs.Integers.{wrapped}
 use Rattle.acpi_values.specs.declared.width.Width.TheVariants.{W64}
 use Rattle.asl_terms.specs.Symbols.{symbol_of}
-use Rattle.asl_terms.specs.Terms.{Shaped, fine, fault_at, refused, unformed, holes_in, counted, count_faults, format_faults, nowhere}
+use Rattle.asl_terms.specs.Terms.{Shaped, fine, refused, unformed, holes_in, counted, count_faults, format_faults}
+use Rattle.term_plans.specs.Places.{fault_at, nowhere}
 use Rattle.asl_terms.specs.Terms.{valued, evaluated, after, checked, is_member, is_given, count, are_all_types, text_plan, number_shape}
 use Rattle.asl_terms.specs.Terms.{string_shape, text_shape}
-use Rattle.asl_shape.specs.Shapes.{room_faults, template_shape, descriptor_shape, takes, has_arguments}
+use Rattle.asl_shape.specs.Shapes.{room_faults, template_shape, descriptor_shape, is_number_list, takes, has_arguments}
 use Rattle.asl_terms.specs.Terms.{path_shape, listed_shape, place_of, inside_of, is_element}
 use Rattle.asl_shape.specs.Shapes.{call_shape, read_shape, item_shape, form_shape, symbol_shape, within, is_separator, is_listed, byte_slot}
 use Rattle.asl_shape.specs.Shapes.{list_shape, skipped, run_after, bare, operands, call_args, arguments, arguments_in, contents, members}
@@ -61,7 +62,7 @@ use Rattle.resource_macros.specs.Identifiers.{eisaid_of, uuid_of, utf16_of}
 use Rattle.asl_shape.specs.Forms.{start, is_block_word, block_fault, errors_inside, block_errors, no_block, is_block_at, errors_before, first_errors, errors_of, errors_at, alone, errors_in_block, errors_in_blocks, stray_errors, source_errors, block_args, revision_in}
 use Rattle.asl_terms.specs.AtRaw.{place_at}
 use Rattle.asl_syntax.specs.Within.{IsIn, IsWithin, AreWithin, IsGroupWithin}
-use Rattle.asl_terms.specs.Places.{AreTold}
+use Rattle.term_plans.specs.Places.{AreTold}
 
 module _ (files : ℕ) where
   one : (n : ℕ) (place : Place) → IsIn files place → AreTold files (fault_at n place ∷ [])
@@ -286,7 +287,7 @@ module _ (files : ℕ) where
           let element : FieldWord → Shaped Plan = λ e. element_shape e (arguments (element_parameters e) place inside args) in
           let expanded : TextMacro → Shaped Plan = λ m. macro_shape (arguments (macro_parameters m) place inside args) in
           let template : Shaped Plan = template_shape place (contents (braces.Descriptors false) inside place body) in
-          let described : Descriptor → Shaped Plan = λ d. descriptor_shape d place (arguments (descriptor_parameters d) place inside args) (contents (descriptor_body d) inside place body) in
+          let described : Descriptor → Shaped Plan = λ d. descriptor_shape d place (is_number_list (descriptor_body d) body) (arguments (descriptor_parameters d) place inside args) (contents (descriptor_body d) inside place body) in
           item_told place (item_fault s inside.method meaning (has_arguments meaning (inside_of args)) (is_given body)) (read_shape s place w (reading_of s meaning (is_given args)) (call_args inside args) element expanded template described form) h.0
           (read_told s place w (reading_of s meaning (is_given args)) (call_args inside args) element expanded template described form h.0 (call_told_in inside args h.1) (λ e. arguments_told (element_parameters e) place inside args h.0 h.1)
           (λ m. arguments_told (macro_parameters m) place inside args h.0 h.1)
@@ -294,7 +295,7 @@ module _ (files : ℕ) where
           (λ d.
           let first : Shaped Plans = arguments (descriptor_parameters d) place inside args in
           let rest : Shaped Plans = contents (descriptor_body d) inside place body in
-          let room = is_roomy d first.made rest.made in
+          let room = not (is_number_list (descriptor_body d) body) || is_roomy d first.made rest.made in
           both (first.faults ++ rest.faults) (room_faults room place) (both first.faults rest.faults (arguments_told (descriptor_parameters d) place inside args h.0 h.1) (contents_told (descriptor_body d) inside place body h.0 h.2)) (room_told room place h.0))
           (λ o. form_told inside.width o place (arguments (parameters_as o s) place inside args) (contents (body_as o s) (within o inside) place body) h.0 (arguments_told (parameters_as o s) place inside args h.0 h.1) (contents_told (body_as o s) (within o inside) place body h.0 h.2)))
       bare_told s inside comma h = tt

@@ -16,8 +16,8 @@ use Rattle.asl_tree.specs.declared.term.Special.{Special}
 use Rattle.asl_tree.specs.declared.term.Node.{Node}
 use Rattle.asl_words.specs.Paths.{path_of}
 use Rattle.asl_shape.specs.declared.around.Around.{Around}
-use Rattle.asl_terms.specs.Plans.{plans_of, Plan, omitted, Plans, no_plans, join, last_plan, with_last}
-use Rattle.asl_terms.proofs.Plans.{plan_form, plan_call}
+use Rattle.term_plans.specs.Plans.{plans_of, Plan, omitted, Plans, no_plans, join, last_plan, with_last}
+use Rattle.term_plans.proofs.Plans.{plan_form, plan_call}
 use Rattle.asl_words.specs.declared.operator.Known.{Known}
 use Rattle.asl_words.specs.declared.operator.Parameter.{Parameter}
 use Rattle.asl_words.specs.declared.operator.Slot.{Slot}
@@ -35,23 +35,27 @@ use Rattle.asl_shape.specs.Shapes
 use Rattle.asl_terms.specs.Symbols.{symbol_of}
 use Rattle.asl_terms.specs.Terms.{Shaped, fine, refused, is_given, inside_of, after, checked, evaluated, number_shape, text_shape}
 use Rattle.asl_shape.specs.Shapes.{template_shape, descriptor_shape, has_arguments, form_shape, symbol_shape, read_shape, item_shape}
-use Rattle.asl_terms.specs.Terms.{one_plan, path_shape, known_plan, missing, nowhere}
+use Rattle.term_plans.specs.Plans.{one_plan}
+use Rattle.asl_terms.specs.Terms.{path_shape, known_plan, missing}
+use Rattle.term_plans.specs.Places.{nowhere}
 use Rattle.asl_shape.specs.Shapes.{call_shape, within, joined, list_shape, skipped, bare, call_args, element_shape, macro_shape, begin}
 use Rattle.word_meanings.specs.Meanings.{item_fault, meaning_of, reading_of, slot_as, unfit}
 use Rattle.asl_words.specs.Resources.{descriptor_parameters, descriptor_body}
 use Rattle.resource_layout.specs.declared.descriptor.Descriptor.{Descriptor}
 use Rattle.asl_terms.specs.AtRaw.{inside_at, listed_at, place_at}
-use Rattle.asl_shape.specs.AtRaw.{has_arguments_at, template_at, descriptor_at, bare_at, shape_at, is_separator_at, run_after_at}
+use Rattle.asl_shape.specs.AtRaw.{has_arguments_at, template_at, descriptor_at, is_number_list_at, bare_at, shape_at, is_separator_at, run_after_at}
 use Rattle.asl_shape.specs.AtRaw.{operands_at, call_at, arguments_at, arguments_in_at, contents_at, members_at}
 use Rattle.asl_terms.specs.AtRaw.{is_some}
 use Rattle.asl_shape.specs.AtRaw.{terms_at, member_at, argument_at, form_at, read_at, one_at, is_listed_at, byte_slot_at, item_at}
 use Rattle.asl_shape.specs.AtRaw.{meaning_at, element_at, macro_at, is_field_list_at, elements_at, cases_at, default_after_at}
 use Rattle.asl_syntax.specs.Views.{written_number, written_text, written_item, written_apply, written_list, written_comma, written_semicolon, written_empty}
-use Rattle.asl_terms.proofs.Terms.{omitted_term, nothing_more}
+use Rattle.term_plans.proofs.Terms.{omitted_term}
+use Rattle.asl_terms.proofs.Terms.{nothing_more}
 use Rattle.asl_terms.proofs.Leaves.{place_rules}
 use Rattle.asl_terms.proofs.Last.{last_join, with_join}
 use Rattle.asl_terms.proofs.Bracketed.{given_some, from_item, inside_written}
-use Rattle.asl_terms.proofs.Joins.{join_assoc, from_none, nothing_behind}
+use Rattle.term_plans.proofs.Lists.{join_assoc}
+use Rattle.asl_terms.proofs.Joins.{from_none, nothing_behind}
 
 -- ---- errors in order
 
@@ -120,7 +124,7 @@ unfolding bare_at
 bare_empty s inside = ap (bare s inside) (written_empty)
 
 pub bare_item : (s : Slot) (inside : Around) (place : Place) (w : List ℕ) (args body : Option (List Raw)) → bare_at s inside (raw.Item place w args body) ≡ item_at s inside place w args body
-unfolding bare_at item_at has_arguments_at read_at call_at element_at macro_at template_at descriptor_at form_at arguments_at contents_at
+unfolding bare_at item_at has_arguments_at read_at call_at element_at macro_at template_at descriptor_at is_number_list_at form_at arguments_at contents_at
 bare_item s inside place w args body =
     let form : Op → Shaped Plan = λ o. form_at s o place inside args body in
     let element : FieldWord → Shaped Plan = λ e. element_at e place inside args in
@@ -169,9 +173,9 @@ pub template_is : (place : Place) (inside : Around) (body : Option (List Raw)) �
 unfolding template_at
 template_is place inside body = refl
 
-pub descriptor_is : (d : Descriptor) (place : Place) (inside : Around) (args body : Option (List Raw)) → descriptor_at d place inside args body ≡ descriptor_shape d place (arguments_in_at (descriptor_parameters d) place inside (inside_at args)) (contents_at (descriptor_body d) inside place body)
+pub descriptor_is : (d : Descriptor) (place : Place) (inside : Around) (args body : Option (List Raw)) → descriptor_at d place inside args body ≡ descriptor_shape d place (is_number_list_at (descriptor_body d) body) (arguments_in_at (descriptor_parameters d) place inside (inside_at args)) (contents_at (descriptor_body d) inside place body)
 unfolding descriptor_at
-descriptor_is d place inside args body = ap (λ a. descriptor_shape d place a (contents_at (descriptor_body d) inside place body)) (arguments_are (descriptor_parameters d) place inside args)
+descriptor_is d place inside args body = ap (λ a. descriptor_shape d place (is_number_list_at (descriptor_body d) body) a (contents_at (descriptor_body d) inside place body)) (arguments_are (descriptor_parameters d) place inside args)
 
 -- ---- items as they are read
 

@@ -14,14 +14,15 @@ use Rattle.acpi_values.specs.Revisions.{width_of}
 use Rattle.acpi_values.specs.declared.width.Width.TheVariants.{W64}
 use Rattle.iasl_messages.specs.declared.message.Message.{Message}
 use Rattle.asl_shape.specs.Around.{outside}
-use Rattle.asl_terms.specs.Plans.{Plans, plan_of, plans_of, plan_at, text_of, join}
+use Rattle.term_plans.specs.Plans.{Plans, plan_of, plans_of, plan_at, text_of, join}
 use Rattle.asl_words.specs.Operators.{block_parameters}
-use Rattle.asl_terms.specs.Terms.{Shaped, fault_at, inside_of, is_given}
+use Rattle.asl_terms.specs.Terms.{Shaped, inside_of, is_given}
+use Rattle.term_plans.specs.Places.{fault_at}
 use Rattle.asl_shape.specs.Shapes.{takes, terms}
 use Rattle.asl_terms.specs.AtRaw.{inside_at, is_some, place_at}
 use Rattle.asl_shape.specs.AtRaw.{takes_at, terms_at, arguments_at, Refuses}
 use Rattle.asl_shape.specs.Forms.{revision_in, start, is_block_word, is_block, block_fault, errors_inside, block_errors, no_block, errors_of, block_place, args_of, terms_of, IsBlock, errors_at, IsBlockOf, alone, is_block_at, errors_in_block, errors_in_blocks, stray_errors, source_errors, AreBlocksOf, AreRight, AddsBlock, args_in, terms_in, errors_in, block_errors_at}
-use Rattle.asl_terms.proofs.Settled.{at_some, at_none}
+use Rattle.term_plans.proofs.Lists.{at_some, at_none}
 use Rattle.asl_terms.proofs.Bracketed.{given_some, inside_written}
 use Rattle.asl_terms.proofs.Joins.{from_none}
 use Rattle.asl_shape.proofs.Shapes.{arguments_are, none_left, all_made}

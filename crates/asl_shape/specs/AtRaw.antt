@@ -6,7 +6,7 @@ use Rattle.iasl_messages.specs.declared.message.Stage.{Stage}
 use Rattle.iasl_messages.specs.declared.message.Stage.TheVariants as stage
 use Rattle.asl_syntax.specs.declared.raw.Raw.{Raw}
 use Rattle.asl_shape.specs.declared.around.Around.{Around}
-use Rattle.asl_terms.specs.Plans.{Plan, omitted, Plans, no_plans, plan}
+use Rattle.term_plans.specs.Plans.{Plan, omitted, Plans, no_plans, plan}
 use Rattle.asl_tree.specs.declared.term.Op.{Op}
 use Rattle.asl_words.specs.declared.operator.Parameter.{Parameter}
 use Rattle.asl_words.specs.declared.operator.Slot.{Slot}
@@ -23,8 +23,9 @@ use Rattle.asl_shape.specs.declared.fields.UnitName.{UnitName}
 use Rattle.asl_syntax.specs.Written.{written, writtens, written_in}
 use Rattle.asl_terms.specs.Terms.{missing, Shaped, fine}
 use Rattle.asl_shape.specs.Shapes.{takes, none_empty, has_arguments, is_comma, due_after, is_text, bare, run_after}
-use Rattle.asl_shape.specs.Shapes.{is_call, is_separator, is_listed, byte_slot, skipped, joined, operands, call_args, arguments}
-use Rattle.asl_terms.specs.Terms.{nowhere, checked}
+use Rattle.asl_shape.specs.Shapes.{is_call, is_separator, is_listed, is_list_end, is_number_list, byte_slot, skipped, joined, operands, call_args, arguments}
+use Rattle.term_plans.specs.Places.{nowhere}
+use Rattle.asl_terms.specs.Terms.{checked}
 use Rattle.asl_shape.specs.Shapes.{arguments_in, contents, members, terms, read_shape, form_shape, within, item_shape, meaning_in}
 use Rattle.asl_shape.specs.Shapes.{goes_on, is_field_list, field_slot, unit_behind, field_part, due_behind, element_shape, first_place}
 use Rattle.asl_shape.specs.Shapes.{inner_place, element_place, macro_shape, template_shape, descriptor_shape, elements, begin, cases}
@@ -71,6 +72,9 @@ arguments_at qs place inside raws = arguments qs place inside (written_in raws)
 unfoldable pub arguments_in_at : List Parameter → Place → Around → List Raw → Shaped Plans
 arguments_in_at qs place inside raws = arguments_in qs place inside (writtens raws)
 
+unfoldable pub is_number_list_at : Body → Option (List Raw) → Bool
+is_number_list_at b raws = is_number_list b (written_in raws)
+
 unfoldable pub contents_at : Body → Around → Place → Option (List Raw) → Shaped Plans
 contents_at b inside place raws = contents b inside place (written_in raws)
 
@@ -105,8 +109,8 @@ template_at place inside body = template_shape place (contents_at (braces.Descri
 
 -- a descriptor with its arguments and its braces
 unfoldable pub descriptor_at : Descriptor → Place → Around → Option (List Raw) → Option (List Raw) → Shaped Plan
-descriptor_at d place inside args body = descriptor_shape d place (arguments_at (descriptor_parameters d) place inside args)
-    (contents_at (descriptor_body d) inside place body)
+descriptor_at d place inside args body = descriptor_shape d place (is_number_list_at (descriptor_body d) body)
+    (arguments_at (descriptor_parameters d) place inside args) (contents_at (descriptor_body d) inside place body)
 
 -- an item as it is read
 unfoldable pub read_at : Slot → Place → List ℕ → Reading → Around → Option (List Raw) → Option (List Raw) → Shaped Plan
@@ -122,6 +126,9 @@ is_comma_at raw = is_comma (written raw)
 
 unfoldable pub is_listed_at : Bool → List Raw → Bool
 is_listed_at due raws = is_listed due (writtens raws)
+
+unfoldable pub is_list_end_at : List Raw → Bool
+is_list_end_at raws = is_list_end (writtens raws)
 
 unfoldable pub byte_slot_at : List Raw → Slot
 byte_slot_at raws = byte_slot (writtens raws)

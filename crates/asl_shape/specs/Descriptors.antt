@@ -13,8 +13,8 @@ use Rattle.resource_macros.specs.declared.node.Node.{Node}
 use Rattle.resource_macros.specs.declared.node.Term.{Term}
 use Rattle.resource_macros.specs.declared.node.Term as R
 use Rattle.resource_macros.specs.Resources.{bytes_in, has_room}
-use Rattle.asl_terms.specs.Plans.{Plan, an_integer, a_text, a_fill, a_name, Plans, no_plans, plan, number_of}
-use Rattle.asl_terms.specs.Plans.{fill_of, named_of}
+use Rattle.term_plans.specs.Plans.{Plan, an_integer, a_text, a_fill, a_name, Plans, no_plans, plan, number_of}
+use Rattle.term_plans.specs.Plans.{fill_of, named_of}
 
 abbrev pub node : Place → Term → Node
 node place term = record { place = place; term = term }

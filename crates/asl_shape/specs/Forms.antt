@@ -10,9 +10,10 @@ use Rattle.asl_syntax.specs.Written.{Written, Writtens, WrittenGroup, item, none
 use Rattle.acpi_values.specs.Revisions.{width_of}
 use Rattle.acpi_values.specs.declared.width.Width.TheVariants.{W64}
 use Rattle.asl_shape.specs.Around.{outside}
-use Rattle.asl_terms.specs.Plans.{Plans, no_plans, plans_of, plan_at, text_of, number_of}
+use Rattle.term_plans.specs.Plans.{Plans, no_plans, plans_of, plan_at, text_of, number_of}
 use Rattle.asl_words.specs.Operators.{block_parameters}
-use Rattle.asl_terms.specs.Terms.{Shaped, fault_at, place_of, inside_of, is_given}
+use Rattle.asl_terms.specs.Terms.{Shaped, place_of, inside_of, is_given}
+use Rattle.term_plans.specs.Places.{fault_at}
 use Rattle.asl_shape.specs.Shapes.{takes, arguments, terms}
 use Rattle.asl_terms.specs.AtRaw.{inside_at, is_some, place_at}
 use Rattle.asl_shape.specs.AtRaw.{arguments_in_at, terms_at, takes_at}

@@ -35,9 +35,11 @@ use Rattle.word_meanings.specs.Meanings.{meaning_of, may_end, unfit, item_fault,
 use Rattle.word_meanings.specs.Meanings.{run_behind, slot_as, is_default, is_whole, is_connection}
 use Rattle.asl_terms.specs.Symbols.{symbol_of}
 use Rattle.asl_words.specs.Paths.{path_of}
-use Rattle.asl_terms.specs.Plans.{Plan, omitted, a_name, a_unit, a_skip, a_call, a_form, Plans, no_plans, plan, join, number_of, plan_at}
-use Rattle.asl_terms.specs.Terms.{Shaped, fine, fault_at, refused, nowhere, is_given, count, inside_of, checked, number_shape, buffer_plan}
-use Rattle.asl_terms.specs.Terms.{text_shape, path_shape, known_plan, listed_shape, one_plan, settled, arranged, format_faults}
+use Rattle.term_plans.specs.Plans.{Plan, omitted, a_name, a_unit, a_skip, a_call, a_form, Plans, no_plans, plan, join, number_of, plan_at}
+use Rattle.asl_terms.specs.Terms.{Shaped, fine, refused, is_given, count, inside_of, checked, number_shape, buffer_plan}
+use Rattle.term_plans.specs.Places.{fault_at, nowhere}
+use Rattle.asl_terms.specs.Terms.{text_shape, path_shape, known_plan, listed_shape, settled, arranged, format_faults}
+use Rattle.term_plans.specs.Plans.{one_plan}
 use Rattle.asl_terms.specs.Terms.{element_plan, place_of, missing}
 use Rattle.asl_shape.specs.Descriptors.{is_roomy, described, fills_of, names_from}
 
@@ -119,11 +121,12 @@ abbrev pub room_faults : Bool → Place → List Message
 room_faults true place = []
 room_faults false place = fault_at 6024 place ∷ []
 
--- a descriptor stands as its bytes, with those of the descriptors in its braces behind them
-abbrev pub descriptor_shape : Descriptor → Place → Shaped Plans → Shaped Plans → Shaped Plan
-descriptor_shape d place args body =
+-- a descriptor stands as its bytes, with those of the descriptors in its braces behind them; where what stands in its braces is no list, it
+-- is told that alone, and is not asked how long the list is
+abbrev pub descriptor_shape : Descriptor → Place → Bool → Shaped Plans → Shaped Plans → Shaped Plan
+descriptor_shape d place numbered args body =
     record {
-      faults = args.faults ++ body.faults ++ room_faults (is_roomy d args.made body.made) place;
+      faults = args.faults ++ body.faults ++ room_faults (not numbered || is_roomy d args.made body.made) place;
       made =
           described d args.made body.made;
     }
@@ -184,14 +187,24 @@ abbrev pub is_listed : Bool → Writtens → Bool
 is_listed due none = true
 is_listed due (more w ws) = choose (due_after due w) false (λ next. is_listed next ws)
 
+-- numbers in braces stand with commas between them; what else stands there is no list of numbers
+abbrev pub is_number_list : Body → WrittenGroup → Bool
+is_number_list (braces.Numbers most) (given ws) = is_listed true ws
+is_number_list b group = true
+
 abbrev pub is_text : Written → Bool
 is_text (piece.text p t) = true
 is_text _ = false
 
--- bytes, or one string
+-- whether a list ends here: with nothing, or with one comma
+abbrev pub is_list_end : Writtens → Bool
+is_list_end none = true
+is_list_end (more w ws) = is_none ws && is_comma w
+
+-- bytes, or one string, which a comma may follow
 abbrev pub byte_slot : Writtens → Slot
 byte_slot none = slot.Constant 0 255
-byte_slot (more w ws) = if is_none ws && is_text w then slot.String form.Any else slot.Constant 0 255
+byte_slot (more w ws) = if is_list_end ws && is_text w then slot.String form.Any else slot.Constant 0 255
 
 abbrev pub list_shape : Place → Bool → Shaped Plans → Shaped Plans
 list_shape place true members = members
@@ -327,7 +340,7 @@ abbrev mutual
       (λ e. element_shape e (arguments (element_parameters e) place inside args))
       (λ m. macro_shape (arguments (macro_parameters m) place inside args))
       (template_shape place (contents (braces.Descriptors false) inside place body))
-      (λ d. descriptor_shape d place (arguments (descriptor_parameters d) place inside args)
+      (λ d. descriptor_shape d place (is_number_list (descriptor_body d) body) (arguments (descriptor_parameters d) place inside args)
       (contents (descriptor_body d) inside place body))
       (λ o. form_shape inside.width o place (arguments (parameters_as o s) place inside args)
       (contents (body_as o s) (within o inside) place body)))

@@ -2,7 +2,7 @@
 ghost use Rattle.std.specs.Prelude.{◌≡◌, ◌++◌, OnOk, IfOk, drop};
 ghost use Rattle.asl_shape.specs.Shapes as spec;
 ghost use Rattle.asl_shape.specs.AtRaw as at;
-ghost use Rattle.asl_terms.specs.Plans.{plan_of, plans_of, join};
+ghost use Rattle.term_plans.specs.Plans.{plan_of, plans_of, join};
 ghost use Rattle.word_meanings.specs.Meanings.{slot_as};
 
 use crate::lists::{is_comma, is_separator};
@@ -171,7 +171,7 @@ fn named_by(place: Place, path: &Path) -> Option<UnitName>
 }
 
 /// The unit that a name begins.
-#[tactic(auto, unfolding(asl_terms::specs::Plans::plan_of))]
+#[tactic(auto, unfolding(term_plans::specs::Plans::plan_of))]
 pub fn named_unit(place: Place, term: &Term) -> Option<UnitName>
     ensures { result ≡ spec.named_unit place (plan_of term.now) }
 {
@@ -259,7 +259,7 @@ pub fn begin(
 }
 
 /// Adds a unit at its name, or a gap at this place.
-#[tactic(auto, unfolding(asl_terms::specs::Plans::plan_of))]
+#[tactic(auto, unfolding(term_plans::specs::Plans::plan_of))]
 pub fn add_unit(
     nodes: &mut Vec<Node>,
     unit: Option<UnitName>,

@@ -5,10 +5,10 @@ ghost use Rattle.asl_shape.specs.Shapes as spec;
 ghost use Rattle.asl_shape.specs.AtRaw as at;
 
 use crate::around::Around;
-use asl_syntax::{NodeForm, SyntaxNode};
+use asl_syntax::{NodeForm, SyntaxNode, SyntaxNodes};
 use asl_terms::brackets::is_given;
 use asl_tree::term::{Declaration, Op};
-use asl_words::operator::{Slot, StringForm};
+use asl_words::operator::{Body, Slot, StringForm};
 use asl_words::paths::parts;
 use word_meanings::meaning::{is_default, meaning_of, run_behind_word};
 
@@ -95,6 +95,17 @@ pub fn is_listed(raws: &[SyntaxNode<'_>]) -> bool
     true
 }
 
+/// Whether numbers that stand in braces have commas between them.
+#[tactic(auto, unfolding(crate::specs::AtRaw::is_number_list_at, crate::specs::AtRaw::is_listed_at))]
+pub fn is_number_list(body: Body, raws: &Option<SyntaxNodes<'_>>) -> bool
+    ensures { result ≡ at.is_number_list_at body raws.now }
+{
+    match (body, raws) {
+        (Body::Numbers { .. }, Some(raws)) => is_listed(raws.as_slice()),
+        _ => true,
+    }
+}
+
 fn is_text(raw: &SyntaxNode<'_>) -> bool
     ensures { result ≡ at.is_text_at raw.now }
 {
@@ -110,7 +121,18 @@ fn is_text(raw: &SyntaxNode<'_>) -> bool
     }
 }
 
-/// How the bytes of a Buffer are read: as one string, or as bytes.
+// Whether a list ends here: with nothing, or with one comma.
+#[tactic(auto, using(crate::proofs::Braces::end_rules))]
+fn is_list_end(raws: &[SyntaxNode<'_>]) -> bool
+    ensures { result ≡ at.is_list_end_at raws.now }
+{
+    match parts(raws) {
+        Some((first, rest)) => rest.is_empty() && is_comma(first),
+        None => true,
+    }
+}
+
+/// How the bytes of a Buffer are read: as one string, which a comma may follow, or as bytes.
 #[tactic(auto, using(crate::proofs::Braces::byte_rules))]
 pub fn byte_slot(raws: &[SyntaxNode<'_>]) -> Slot
     ensures { result ≡ at.byte_slot_at raws.now }
@@ -121,7 +143,7 @@ pub fn byte_slot(raws: &[SyntaxNode<'_>]) -> Slot
             most: 255,
         };
     };
-    if rest.is_empty() && is_text(first) {
+    if is_list_end(rest) && is_text(first) {
         Slot::String(StringForm::Any)
     } else {
         Slot::Constant {

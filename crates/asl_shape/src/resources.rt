@@ -1,8 +1,8 @@
 //! Resource templates, which stand for the bytes of their descriptors.
-ghost use Rattle.std.specs.Prelude.{◌≡◌, ◌+◌, ◌^◌, ◌≤◌, ◌++◌, ◌∷◌, [], true, OnOk, IfOk, IfErr, length, map};
+ghost use Rattle.std.specs.Prelude.{◌≡◌, ◌+◌, ◌^◌, ◌≤◌, ◌++◌, ◌∷◌, [], true, OnOk, IfOk, IfErr, length, map, not, ◌||◌};
 ghost use Rattle.asl_shape.specs.Descriptors as table;
 ghost use Rattle.asl_shape.specs.Shapes as spec;
-ghost use Rattle.asl_terms.specs.Plans.{plan_of, plans_of, fill_of, named_of};
+ghost use Rattle.term_plans.specs.Plans.{plan_of, plans_of, fill_of, named_of};
 ghost use Rattle.resource_layout.specs.Layout.{row_of};
 ghost use Rattle.resource_macros.specs.Reading.{IsResource};
 
@@ -41,7 +41,7 @@ fn push(nodes: &mut Vec<node::Node>, place: Place, term: node::Term) -> Result<(
 }
 
 // Adds what an argument gives.
-#[tactic(auto, unfolding(asl_terms::specs::Plans::plan_of))]
+#[tactic(auto, unfolding(term_plans::specs::Plans::plan_of))]
 fn add_argument(
     alloc: Global,
     nodes: &mut Vec<node::Node>,
@@ -128,7 +128,7 @@ fn add_names(
 }
 
 // Adds the bytes and the names of a descriptor.
-#[tactic(auto, using(crate::proofs::Descriptors::fill_rules), unfolding(asl_terms::specs::Plans::plan_of))]
+#[tactic(auto, using(crate::proofs::Descriptors::fill_rules), unfolding(term_plans::specs::Plans::plan_of))]
 fn add_fill(fill: &mut Fill, term: &Term) -> Result<(), AllocError>
     ensures bytes { OnOk result (fill.new.bytes.items ≡ fill.old.bytes.items ++ fill_of (plan_of term.now)) }
     ensures names { OnOk result (fill.new.named.items ≡ fill.old.named.items ++ map (table.moved (length fill.old.bytes.items))
@@ -234,19 +234,21 @@ fn ask_room(alloc: Global, work: &mut Work, has_room: bool, place: Place) -> Res
 /// written, they read as it.
 ///
 /// # Errors
-/// 6024 is told at a descriptor whose list is too short, or whose length or count does not fit.
-#[tactic(auto, unfolding(asl_terms::specs::Plans::plan_of))]
+/// 6024 is told at a descriptor whose list is too short, or whose length or count does not fit, where what stands in its
+/// braces is a list at all.
+#[tactic(auto, unfolding(term_plans::specs::Plans::plan_of))]
 pub fn describe(
     alloc: Global,
     work: &mut Work,
     descriptor: Descriptor,
     place: Place,
+    numbered: bool,
     args: &[Node],
     body: &[Node],
 ) -> Result<Term, AllocError>
     ensures faults { OnOk result
         (work.new.faults.items ≡ work.old.faults.items
-        ++ spec.room_faults (table.is_roomy descriptor (plans_of args.now) (plans_of body.now)) place) }
+        ++ spec.room_faults (not numbered || table.is_roomy descriptor (plans_of args.now) (plans_of body.now)) place) }
     ensures made { IfOk result (λ term. plan_of term ≡ table.described descriptor (plans_of args.now) (plans_of body.now)) }
     ensures reads { OnOk result (table.is_roomy descriptor (plans_of args.now) (plans_of body.now) ≡ true
         → IsResource (row_of descriptor) (table.descriptor_arguments descriptor (plans_of args.now))
@@ -256,7 +258,7 @@ pub fn describe(
     add_arguments(alloc, &mut arguments, fields_of(descriptor), args)?;
     let members = member_nodes(alloc, body)?;
     let described = resource_macros::descriptor::describe(alloc, descriptor, &arguments, &members)?;
-    ask_room(alloc, work, described.has_room, place)?;
+    ask_room(alloc, work, !numbered || described.has_room, place)?;
     let mut named = Vec::new(alloc);
     add_own_name(&mut named, descriptor, fields_of(descriptor), args)?;
     let mut fill = Fill {

@@ -1,24 +1,17 @@
-//! From the tree of the syntax to the program tree. Each part pushes its node behind the others. What is rare is a function of its own
-//! that is not inlined, so that the usual way has a small frame.
+//! From the tree of the syntax to the program tree: each part pushes its node. What is rare is not inlined, so that frames are small.
 ghost use Rattle.std.specs.Prelude.{None, Some, ◌≡◌, ◌++◌, ◌==◌, ◌&&◌, [], slice_get, length, nat_eq, OnOk, IfOk, IfErr, true, false};
 ghost use Rattle.asl_shape.specs.Shapes as spec;
-ghost use Rattle.asl_terms.specs.Terms.{one_plan};
+ghost use Rattle.term_plans.specs.Plans.{one_plan};
 ghost use Rattle.asl_shape.specs.AtRaw as at;
 ghost use Rattle.asl_words.specs.Operators as table;
 ghost use Rattle.asl_words.specs.declared.operator.Slot.TheVariants as slots;
 ghost use Rattle.asl_words.specs.Paths;
-ghost use Rattle.asl_terms.specs.Plans.{plan_of, plans_of, join};
+ghost use Rattle.term_plans.specs.Plans.{plan_of, plans_of, join};
 
 use crate::around::Around;
-use crate::fields::{
-    BITS, Due, UnitName, add_unit, begin, due_behind, element_place, is_field_list, meaning_in,
-    miss_comma, slot_of,
-};
+use crate::fields::{self, BITS, Due, UnitName};
 use crate::item::item_fault;
-use crate::lists::{
-    byte_slot, count_members, default_after, is_listed, is_separator, run_after, within,
-};
-use crate::resources;
+use crate::{lists, resources};
 use asl_syntax::{NodeForm, SyntaxNode, SyntaxNodes, SyntaxText};
 use asl_terms::brackets::{inside_of, is_given};
 use asl_terms::elements::element_term;
@@ -138,7 +131,7 @@ fn add_member(
     ensures made { OnOk result (plans_of nodes.new.items ≡ join (plans_of nodes.old.items)
         (at.member_at slot.now inside.now raw.now).made) }
 {
-    if is_separator(raw) {
+    if lists::is_separator(raw) {
         return Ok(());
     }
     Ok(add(alloc, work, nodes, slot, inside, &NOWHERE, raw)?)
@@ -374,7 +367,8 @@ fn add_descriptor(
     let braces = descriptor_body(of);
     let mut members = Vec::new(alloc);
     contents(alloc, work, &mut members, braces, inside, place, body)?;
-    let term = resources::describe(alloc, work, of, *place, &given, &members)?;
+    let numbered = lists::is_number_list(braces, body);
+    let term = resources::describe(alloc, work, of, *place, numbered, &given, &members)?;
     push(nodes, *place, term)
 }
 
@@ -447,7 +441,7 @@ fn add_form(
         work,
         &mut terms,
         body_as(op, *slot),
-        &within(op, *inside),
+        &lists::within(op, *inside),
         place,
         body,
     )?;
@@ -479,15 +473,10 @@ fn add_argument(
         (at.argument_at parameter.now place.now inside.now (slice_get args.now i)).made) }
 {
     match args.get(i) {
-        Some(raw) => Ok(add(
-            alloc,
-            work,
-            nodes,
-            &slot_of(parameter.slot, raw),
-            inside,
-            place,
-            raw,
-        )?),
+        Some(raw) => {
+            let slot = fields::slot_of(parameter.slot, raw);
+            Ok(add(alloc, work, nodes, &slot, inside, place, raw)?)
+        }
         None => Ok(add_missing(nodes, *place, *parameter)?),
     }
 }
@@ -560,7 +549,10 @@ fn contents_of(
     match body {
         Body::No => Ok(()),
         Body::Terms => Ok(terms(alloc, work, nodes, inside, raws)?),
-        Body::Bytes => Ok(elements(alloc, work, nodes, &byte_slot(raws), inside, place, raws)?),
+        Body::Bytes => {
+            let slot = lists::byte_slot(raws);
+            Ok(elements(alloc, work, nodes, &slot, inside, place, raws)?)
+        }
         Body::Elements => Ok(elements(alloc, work, nodes, &Slot::Element, inside, place, raws)?),
         Body::FieldList => Ok(field_list(alloc, work, nodes, inside, place, raws)?),
         Body::Numbers { most } => {
@@ -595,7 +587,7 @@ fn field_list(
     ensures made { OnOk result (plans_of nodes.new.items ≡ join (plans_of nodes.old.items)
         (spec.list_shape place.now (at.is_field_list_at spec.begin raws.now) (at.elements_at spec.begin None inside.now raws.now)).made) }
 {
-    if !is_field_list(raws) {
+    if !fields::is_field_list(raws) {
         return Ok(tell(alloc, work, WRONG_ARGUMENT_FORM, *place)?);
     }
     Ok(field_elements(alloc, work, nodes, inside, raws)?)
@@ -619,7 +611,7 @@ fn field_elements(
     let mut unit = None;
     for raw in raws {
         unit = add_part(alloc, work, nodes, due, unit, inside, raw)?;
-        due = due_behind(due, raw);
+        due = fields::due_behind(due, raw);
     }
     Ok(())
 }
@@ -643,7 +635,7 @@ fn add_part(
     match due {
         Due::Element => Ok(begin_element(alloc, work, nodes, inside, raw)?),
         Due::NameComma => {
-            miss_comma(alloc, work, unit, raw)?;
+            fields::miss_comma(alloc, work, unit, raw)?;
             Ok(unit)
         }
         Due::Bits => {
@@ -687,13 +679,13 @@ fn begin_element(
     ensures made { OnOk result (plans_of nodes.new.items ≡ join (plans_of nodes.old.items) (at.begin_at inside.now raw.now).made) }
     ensures unit { IfOk result (λ next. next ≡ at.unit_at spec.begin None inside.now raw.now) }
 {
-    if is_separator(raw) {
+    if lists::is_separator(raw) {
         return Ok(None);
     }
-    let meaning = meaning_in(raw);
+    let meaning = fields::meaning_in(raw);
     let slot = slot_as(Slot::FieldElement, meaning);
     let term = read_term(alloc, work, nodes, &slot, inside, raw)?;
-    Ok(begin(nodes, is_whole(meaning), element_place(raw), term)?)
+    Ok(fields::begin(nodes, is_whole(meaning), fields::element_place(raw), term)?)
 }
 
 // The number of bits of a unit or of a gap.
@@ -711,7 +703,7 @@ fn add_bits(
     ensures made { OnOk result (plans_of nodes.new.items ≡ join (plans_of nodes.old.items) (at.bits_at unit inside.now raw.now).made) }
 {
     let term = read_term(alloc, work, nodes, &BITS, inside, raw)?;
-    Ok(add_unit(nodes, unit, element_place(raw), number_in(&term))?)
+    Ok(fields::add_unit(nodes, unit, fields::element_place(raw), number_in(&term))?)
 }
 
 // Elements with commas between them.
@@ -731,7 +723,7 @@ fn elements(
     ensures made { OnOk result (plans_of nodes.new.items ≡ join (plans_of nodes.old.items)
         (spec.list_shape place.now (at.is_listed_at true raws.now) (at.members_at slot.now inside.now raws.now)).made) }
 {
-    if !is_listed(raws) {
+    if !lists::is_listed(raws) {
         return Ok(tell(alloc, work, WRONG_ARGUMENT_FORM, *place)?);
     }
     // every other member is a comma
@@ -771,11 +763,11 @@ pub fn terms(
     ensures faults { OnOk result (work.new.faults.items ≡ work.old.faults.items ++ (at.terms_at inside.now None raws.now).faults) }
     ensures made { OnOk result (plans_of nodes.new.items ≡ join (plans_of nodes.old.items) (at.terms_at inside.now None raws.now).made) }
 {
-    nodes.reserve_exact(count_members(raws))?;
+    nodes.reserve_exact(lists::count_members(raws))?;
     let mut run = None;
     for raw in raws {
         add_member(alloc, work, nodes, &Slot::Term { run }, inside, raw)?;
-        run = run_after(run, raw);
+        run = lists::run_after(run, raw);
     }
     Ok(())
 }
@@ -793,11 +785,11 @@ fn cases(
     ensures faults { OnOk result (work.new.faults.items ≡ work.old.faults.items ++ (at.cases_at inside.now false raws.now).faults) }
     ensures made { OnOk result (plans_of nodes.new.items ≡ join (plans_of nodes.old.items) (at.cases_at inside.now false raws.now).made) }
 {
-    nodes.reserve_exact(count_members(raws))?;
+    nodes.reserve_exact(lists::count_members(raws))?;
     let mut defaulted = false;
     for raw in raws {
         add_member(alloc, work, nodes, &Slot::Branch { defaulted }, inside, raw)?;
-        defaulted = default_after(defaulted, raw);
+        defaulted = lists::default_after(defaulted, raw);
     }
     Ok(())
 }

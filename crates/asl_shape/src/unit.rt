@@ -4,7 +4,7 @@ ghost use Rattle.asl_shape.specs.Forms as spec;
 ghost use Rattle.asl_shape.specs.AtRaw as at;
 ghost use Rattle.asl_terms.specs.AtRaw.{inside_at};
 ghost use Rattle.asl_words.specs.Operators as table;
-ghost use Rattle.asl_terms.specs.Plans.{plan_of, plans_of, plan_at, text_of, join};
+ghost use Rattle.term_plans.specs.Plans.{plan_of, plans_of, plan_at, text_of, join};
 
 use crate::around::outside;
 use crate::item::takes;
@@ -47,7 +47,7 @@ fn refusal(alloc: Global, number: u16, place: Place) -> Stage
     }
 }
 
-#[tactic(auto, unfolding(asl_terms::specs::Plans::plan_of))]
+#[tactic(auto, unfolding(term_plans::specs::Plans::plan_of))]
 fn text_in(alloc: Global, term: &Term) -> Result<Text, AllocError>
     ensures { IfOk result (λ text. text ≡ text_of (plan_of term.now)) }
 {
@@ -229,6 +229,7 @@ fn is_block(raw: &SyntaxNode<'_>) -> bool
 }
 
 // The block that an item is.
+#[tactic(auto, using(crate::proofs::Units::block_items))]
 fn block_in(alloc: Global, raw: &SyntaxNode<'_>) -> Result<Block, Stage>
     requires { spec.is_block_at raw.now ≡ true }
     ensures formed { IfOk result (λ block. (spec.errors_at (spec.alone raw.now) ≡ []) × spec.IsBlockOf (spec.alone raw.now) block) }
@@ -241,7 +242,13 @@ fn block_in(alloc: Global, raw: &SyntaxNode<'_>) -> Result<Block, Stage>
             body,
             ..
         } => block(alloc, *place, args, body),
-        _ => Err(Stage::Memory),
+        NodeForm::Number { .. } => unreachable!(),
+        NodeForm::Text { .. } => unreachable!(),
+        NodeForm::Apply { .. } => unreachable!(),
+        NodeForm::List { .. } => unreachable!(),
+        NodeForm::Comma => unreachable!(),
+        NodeForm::Semicolon => unreachable!(),
+        NodeForm::Empty => unreachable!(),
     }
 }
 
@@ -333,7 +340,7 @@ fn source_blocks(
 
 /// The program that a source is: one or more definition blocks (ACPI Specification 6.4, 19.6.29), in their order. The tree has no errors
 /// then, and each block is the tree of its terms, each at its place; the numbers of its nodes are not told apart yet. Otherwise it is
-/// refused with exactly its errors, 6020 to 6028: those of each block, in the order of the source, for each item the first of 6020, 6025,
+/// refused with exactly its errors, 6020 to 6030: those of each block, in the order of the source, for each item the first of 6020, 6025,
 /// 6021 and 6023, for any other argument the first of 6022 and 6024, and nothing inside of either; and behind them 6028 at the first item
 /// that is no block, or at 1:1 where there is no item. What is written with a symbol stands at the symbol. A want of memory is
 /// `Stage::Memory`.

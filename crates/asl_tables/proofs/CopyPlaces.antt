@@ -4,8 +4,8 @@ use Rattle.std.specs.Prelude.{nat_lt, if◌then◌else◌}
 use Rattle.std.specs.List.{All}
 use Rattle.iasl_messages.specs.declared.place.Place.{Place}
 use Rattle.asl_syntax.specs.Within.{IsIn}
-use Rattle.asl_terms.specs.Places.{AreTold}
-use Rattle.asl_terms.specs.Plans.{Plan, a_call, a_form, Plans, no_plans, plan}
+use Rattle.term_plans.specs.Places.{AreTold}
+use Rattle.term_plans.specs.Plans.{Plan, a_call, a_form, Plans, no_plans, plan}
 use Rattle.asl_numbers.specs.Numbers.{nodes}
 use Rattle.asl_tree.specs.Tree.{Trees}
 use Rattle.core_nodes.specs.Nodes.{nodes_in}

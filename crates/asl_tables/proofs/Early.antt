@@ -18,7 +18,7 @@ use Rattle.acpi_values.specs.Paths.{AbsolutePath}
 use Rattle.acpi_values.specs.Revisions.{width_of}
 use Rattle.aml_code.specs.Header.{HeaderFields}
 use Rattle.iasl_messages.specs.declared.place.Line.{Line}
-use Rattle.asl_terms.specs.Plans.{Plans, plans_of}
+use Rattle.term_plans.specs.Plans.{Plans, plans_of}
 use Rattle.asl_numbers.specs.Numbers.{nodes}
 use Rattle.core_nodes.specs.Nodes.{nodes_in}
 use Rattle.copy_checks.specs.Copies.{copies_told, IsSizeOf}

@@ -38,7 +38,7 @@ case_given _ h = tt
 mutual
   term_given : (t : Tree) → Formed t → IsGiven t
   term_given (If test body) h = terms_given body h.2
-  term_given (ElseIf test body) h = terms_given body h.3
+  term_given (ElseIf test body) h = terms_given body h.2
   term_given (Else body) h = terms_given body h
   term_given (While test body) h = terms_given body h.2
   term_given (Container' kind at name body) h = terms_given body h.2

@@ -1,5 +1,5 @@
 -- The items of a source that are blocks, each read alone.
-use Rattle.std.proofs.Common.{◌≡◌, ℕ, suc, ◌+◌, ◌<◌, ◌≤◌, length, reverse, take, drop, get_or, drop-cons, add-one, Bool, true, false, List, [], ◌∷◌, ◌++◌, append_assoc, Result, Ok, Err, refl, sym, ap, ◌∙◌, subst}
+use Rattle.std.proofs.Common.{◌≡◌, ℕ, suc, ◌+◌, ◌<◌, ◌≤◌, length, reverse, take, drop, get_or, drop-cons, add-one, Bool, true, false, List, [], ◌∷◌, ◌++◌, arith, append_assoc, Result, Ok, Err, refl, sym, ap, ◌∙◌, subst}
 use Rattle.std.specs.Prelude.{IfOk, Option, nat_le, if◌then◌else◌, ⊤}
 use Rattle.std.specs.Option.{option_to_list}
 use Rattle.std.specs.Result.{result_ok}
@@ -64,9 +64,10 @@ none_read items blocks left its turned none h = record {
   rest = subst (AreBlocksOf items) (sym (ap reverse turned ∙ reverse_twice blocks)) h;
 }
 
--- a block that is taken from the end of some
-pub popped_block : (left new : List Block) (popped : Option Block) (r : Result Block AllocError) (block : Block) → left ≡ new ++ option_to_list popped → popped ≡ result_ok r → r ≡ Ok block → left ≡ new ++ block ∷ []
-popped_block left new popped r block e taken ok = e ∙ ap (λ o. new ++ option_to_list o) (taken ∙ ap result_ok ok)
+-- some block is left for an item
+pub some_left : (items : List Raw) (i : ℕ) (d : Raw) (left : List Block) → i < length items → AreBlocksOf (drop i items) (reverse left) → 0 < length left
+some_left items i d [] lt h = absurd (subst (λ xs. AreBlocksOf xs []) (drop-cons items i d lt) h)
+some_left items i d (block ∷ left) lt h = omega arith
 
 pub next_block : (items : List Raw) (i : ℕ) (d : Raw) (left new : List Block) (block : Block) → i < length items → left ≡ new ++ block ∷ [] → AreBlocksOf (drop i items) (reverse left) → IsBlockOf (alone (get_or items i d)) block × AreBlocksOf (drop (suc i) items) (reverse new)
 next_block items i d left new block lt e h =

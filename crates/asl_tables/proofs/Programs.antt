@@ -18,7 +18,7 @@ use Rattle.form_shapes.specs.Near.{AreNear}
 use Rattle.hidden_locals.specs.Switches.{without_switches}
 use Rattle.asl_syntax.specs.declared.raw.Raw.{Raw}
 use Rattle.asl_syntax.specs.Written.{writtens}
-use Rattle.asl_terms.specs.Plans.{plans_of, plan_at, number_of}
+use Rattle.term_plans.specs.Plans.{plans_of, plan_at, number_of}
 use Rattle.asl_shape.specs.Forms.{IsBlock, IsBlockOf, errors_at, args_of, block_place}
 use Rattle.asl_numbers.specs.Numbers.{numbered_all}
 use Rattle.program_shapes.specs.Kept.{IsKeptSource}

@@ -12,12 +12,14 @@ use Rattle.asl_tree.specs.Tree.{Trees}
 use Rattle.term_places.specs.Places.{places_of}
 use Rattle.acpi_values.specs.Revisions.{width_of}
 use Rattle.asl_meaning.specs.Declarations.{known_of, externals}
-use Rattle.aml_meaning.specs.Encoded.{encoded_all}
+use Rattle.else_runs.specs.Runs.{nested_all}
+use Rattle.aml_meaning.specs.Encoded.{encoded_terms}
 use Rattle.aml_code.specs.Header.{fields_of, table_bytes}
 use Rattle.aml_sessions.specs.Ready.{IsReadyBlock, AreReady}
+use Rattle.aml_sessions.proofs.Nested.{nested_ready}
 use Rattle.aml_sessions.proofs.Tables.{length_is}
 use Rattle.aml_sizes.specs.Styles.{style_of}
-use Rattle.aml_sizes.specs.TermBytes.{nodes_bytes}
+use Rattle.aml_sizes.specs.TermLists.{terms_bytes}
 use Rattle.aml_sizes.specs.TableSizes.{most_table_bytes, IsTooLong}
 use Rattle.aml_writer.specs.Written.{IsTableOf, IsTable}
 use Rattle.aml_sizes.specs.Pieces.{joined_pieces}
@@ -38,7 +40,7 @@ block_ready shorten also terms block is = record {
   oem_id = is.room.oem_id;
   table_id = is.room.table_id;
   oem_revision = is.room.oem_revision;
-  terms = subst (λ ts. AreReady (known_of terms) ts []) (sym is.core) (is_ready shorten also terms is.shaped is.names is.counts);
+  terms = subst (λ ts. AreReady ⊥ (known_of terms) (nested_all ts) []) (sym is.core) (nested_ready (known_of terms) (core_beside shorten also terms) [] (is_ready shorten also terms is.shaped is.names is.counts));
 }
 
 abbrev by_size : Bool → Place → List ℕ → List ℕ → List Piece → Outcome
@@ -55,7 +57,7 @@ table_written style lines also terms block signature own pieces is esig eown any
     let table : IsTableOf (known_of terms) (externals terms) block style.short (joined_pieces pieces) = any.table (known_of terms) (externals terms) (knows_start terms is.names) ready in
     let are : pieces ≡ pieces_of style lines also terms block =
     (cut.cut (known_of terms) ready.terms).are ∙ ap (λ ts. pieces_with lines (block.place ∷ places_of block.terms.items) (table_parts (fields_of block) style.short ts)) is.core in
-    let e : joined_pieces pieces ≡ its_table style also terms block = table.encoded ∙ ap (λ ts. table_bytes (fields_of block) (encoded_all (width_of block.revision) style.short ts)) is.core in
+    let e : joined_pieces pieces ≡ its_table style also terms block = table.encoded ∙ ap (λ ts. table_bytes (fields_of block) (encoded_terms (width_of block.revision) style.short ts)) is.core in
     let within : length (its_table style also terms block) ≤ most_table_bytes = subst (λ bs. length bs ≤ most_table_bytes) e table.within in
     let fits : nat_le (length (its_table style also terms block)) most_table_bytes ≡ true = grind (arith, nat_tests) in
     ap (λ s. Done s own pieces) esig ∙ ap (λ o. Done block.signature o pieces) eown ∙ ap (λ ps. Done block.signature block.file ps) are
@@ -72,9 +74,9 @@ pub refused_written : (style : Style) (lines : List Line) (also : AbsolutePath �
 refused_written style lines also terms block message messages is em long =
     let written = style_of block style.short in
     let size : most_table_bytes < length (its_table style also terms block) =
-    let l : length (its_table style also terms block) ≡ 36 + length (encoded_all written.width style.short (core_beside style.shorten also terms)) = length_is (fields_of block) (encoded_all written.width style.short (core_beside style.shorten also terms)) is.room.signature in
-    let c : nodes_bytes written [] block.terms.items ≡ encoded_all written.width style.short (core_beside style.shorten also terms) = ready_bytes (known_of terms) written block.terms.items (block_ready style.shorten also terms block is).terms ∙ ap (encoded_all written.width style.short) is.core in
-    let n : length (nodes_bytes written [] block.terms.items) ≡ length (encoded_all written.width style.short (core_beside style.shorten also terms)) = ap length c in
+    let l : length (its_table style also terms block) ≡ 36 + length (encoded_terms written.width style.short (core_beside style.shorten also terms)) = length_is (fields_of block) (encoded_terms written.width style.short (core_beside style.shorten also terms)) is.room.signature in
+    let c : terms_bytes written block.terms.items ≡ encoded_terms written.width style.short (core_beside style.shorten also terms) = ready_bytes (known_of terms) written block.terms.items (block_ready style.shorten also terms block is).terms ∙ ap (encoded_terms written.width style.short) is.core in
+    let n : length (terms_bytes written block.terms.items) ≡ length (encoded_terms written.width style.short (core_beside style.shorten also terms)) = ap length c in
     omega (arith, long.passes, l, n) in
     let passes : nat_le (length (its_table style also terms block)) most_table_bytes ≡ false = grind (arith, nat_tests) in
     let same : message ≡ too_long block.place = message_is message (too_long block.place) long.number long.place long.no_name in

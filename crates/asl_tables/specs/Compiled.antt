@@ -13,7 +13,7 @@ use Rattle.acpi_values.specs.Revisions.{width_of}
 use Rattle.asl_tree.specs.Tree.{Trees}
 use Rattle.asl_tree.specs.declared.program.Block.{Block}
 use Rattle.aml_code.specs.Header.{HeaderFields, table_bytes, fields_of}
-use Rattle.aml_meaning.specs.Encoded.{encoded_all}
+use Rattle.aml_meaning.specs.Encoded.{encoded_terms}
 use Rattle.aml_sizes.specs.TableSizes.{most_table_bytes}
 use Rattle.aml_writer.specs.Cuts.{table_parts, pieces_with}
 use Rattle.named_sessions.specs.Core.{core_beside}
@@ -27,7 +27,7 @@ use Rattle.asl_syntax.specs.declared.raw.Raw.{Raw}
 use Rattle.asl_parser.specs.Parse.{ParseOutcome, outcome, read, stopped, sunk, tall}
 use Rattle.asl_syntax.specs.Written.{writtens}
 use Rattle.std.specs.Str.{IsAscii}
-use Rattle.asl_terms.specs.Plans.{Plans, plan_at, text_of}
+use Rattle.term_plans.specs.Plans.{Plans, plan_at, text_of}
 use Rattle.asl_shape.specs.Forms.{source_errors, alone, block_place, args_of}
 use Rattle.program_shapes.specs.Sources.{source_in, plans_in, terms_in, statements_in, layouts_in, regions_in, types_in, sizes_in}
 use Rattle.program_shapes.specs.Sources.{values_in, locals_in, notes_in, fields_in, width_in, described_in, table_in}
@@ -58,7 +58,7 @@ of_table place signature own bytes pieces = if nat_le (length bytes) most_table_
 -- the table with this header of these terms, at the width that its revision gives, where `also` stands in the way of their names
 abbrev pub table_with : Style → HeaderFields → (also : AbsolutePath → Bool) → Trees → List ℕ
 table_with style fields also terms =
-    table_bytes fields (encoded_all (width_of fields.revision) style.short (core_beside style.shorten also terms))
+    table_bytes fields (encoded_terms (width_of fields.revision) style.short (core_beside style.shorten also terms))
 
 -- the table of a block of these terms
 abbrev pub its_table : Style → (also : AbsolutePath → Bool) → Trees → Block → List ℕ

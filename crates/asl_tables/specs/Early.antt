@@ -4,7 +4,7 @@ use Rattle.iasl_messages.specs.declared.place.Place.{Place}
 use Rattle.iasl_messages.specs.declared.message.Message.{Message}
 use Rattle.acpi_values.specs.declared.width.Width.{Width}
 use Rattle.asl_tree.specs.Tree.{Trees}
-use Rattle.asl_terms.specs.Plans.{Plans}
+use Rattle.term_plans.specs.Plans.{Plans}
 use Rattle.asl_numbers.specs.Numbers.{nodes}
 use Rattle.asl_prints.specs.Forms.{formed_all}
 use Rattle.hidden_locals.specs.Switches.{without_switches}

@@ -15,14 +15,13 @@ ghost use Rattle.asl_prints.specs.Forms.{formed_all};
 ghost use Rattle.asl_prints.specs.Plans.{formed_plans};
 ghost use Rattle.form_shapes.specs.Near.{AreNear};
 ghost use Rattle.hidden_locals.specs.Switches.{without_switches};
-ghost use Rattle.asl_terms.specs.Plans.{Plans, plans_of};
+ghost use Rattle.term_plans.specs.Plans.{Plans, plans_of};
 ghost use Rattle.term_places.specs.Places.{places_of};
 ghost use Rattle.source_pieces.specs.Places.{core_places};
 ghost use Rattle.named_sessions.specs.Shaped.{AreFormed, AreNamed, AreShaped};
 ghost use Rattle.asl_lower.specs.Nodes.{named_all};
-ghost use Rattle.program_shapes.specs.Kept.{IsKeptSource, AreKeptAlone};
+ghost use Rattle.program_shapes.specs.Kept.{IsKeptSource, AreKeptAlone, HaveShortTexts};
 ghost use Rattle.asl_fold.specs.Folds.{folded_where};
-ghost use Rattle.program_shapes.proofs.Kept.{HaveShortTexts};
 ghost use Rattle.aml_sizes.specs.Pieces.{joined_pieces};
 ghost use Rattle.aml_writer.specs.Cuts.{IsCut};
 ghost use Rattle.aml_writer.specs.Written.{IsTable};
@@ -150,8 +149,8 @@ fn formed(alloc: Global, terms: Vec<Node>, present: Presence) -> Result<Vec<Node
     Ok(plain)
 }
 
-// Terms with what stands for their Fors and for what prints, loops for their Switches, their symbolic operators named
-// and their ElseIfs nested, and their constants folded where that is asked for.
+// Terms with what stands for their Fors and for what prints, loops for their Switches, their symbolic operators named,
+// and their constants folded where that is asked for.
 #[tactic(auto, using(crate::proofs::Given::forms_given, source_pieces::proofs::Planned::places_planned))]
 fn lowered_terms(
     alloc: Global,
@@ -477,6 +476,17 @@ fn read_block(alloc: Global, raw: &SyntaxNode<'_>, block: Block) -> Result<ReadB
     Ok(ReadBlock { block, literals })
 }
 
+// The last of some blocks, which is taken off.
+fn take_last(blocks: &mut Vec<Block>) -> Block
+    requires { 0 < length blocks.old.items }
+    ensures { blocks.old.items ≡ blocks.new.items ++ result ∷ [] }
+{
+    match blocks.pop() {
+        Some(block) => block,
+        None => unreachable!(),
+    }
+}
+
 // The blocks that these items are, each with the notes on its literals.
 fn read_blocks(
     alloc: Global,
@@ -490,8 +500,7 @@ fn read_blocks(
     left.reverse();
     let mut reads = Vec::new(alloc);
     for raw in raws {
-        // (there are as many blocks)
-        let block = left.pop().ok_or(AllocError)?;
+        let block = take_last(&mut left);
         let read = read_block(alloc, raw, block)?;
         reads.push(read)?;
     }

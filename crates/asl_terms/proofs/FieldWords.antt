@@ -4,11 +4,11 @@ use Rattle.asl_tree.specs.declared.path.Path.{Path}
 use Rattle.asl_tree.specs.declared.term.Op.{Op}
 use Rattle.asl_tree.specs.declared.term.Node.{Node}
 use Rattle.asl_tree.specs.declared.term.Term as D
-use Rattle.asl_terms.specs.Plans.{plan_of, plans_of, plan_at, an_access, number_of}
+use Rattle.term_plans.specs.Plans.{plan_of, plans_of, plan_at, an_access, number_of}
 use Rattle.asl_terms.specs.Terms.{accessed_as, connected_to}
-use Rattle.asl_terms.proofs.Plans.{plan_form, plan_call}
-use Rattle.asl_terms.proofs.Settled.{at_some, at_none}
-use Rattle.asl_terms.proofs.Terms.{omitted_term}
+use Rattle.term_plans.proofs.Plans.{plan_form, plan_call}
+use Rattle.term_plans.proofs.Lists.{at_some, at_none}
+use Rattle.term_plans.proofs.Terms.{omitted_term}
 
 pub accessed_form : (access : ℕ) (o : Op) (args body : Vec Node Global) → accessed_as access (plan_of (D.Form o args body)) ≡ an_access access (number_of (plan_of (D.Form o args body)) % 256) None
 accessed_form access o args body = ap (accessed_as access) (plan_form o args body) ∙ ap (λ p. an_access access (number_of p % 256) None) (sym (plan_form o args body))

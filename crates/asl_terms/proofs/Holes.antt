@@ -5,9 +5,10 @@ use Rattle.iasl_messages.specs.declared.place.Place.{Place}
 use Rattle.acpi_state.specs.Outcomes.{choose}
 use Rattle.asl_tree.specs.declared.term.Node.{Node}
 use Rattle.asl_tree.specs.Formats.{is_hole, is_percent, Cut, with_byte, with_hole, cut}
-use Rattle.asl_terms.specs.Plans.{plan_of, plans_of, plan_at, omitted, how_many}
-use Rattle.asl_terms.specs.Terms.{fault_at, holes_in, counted, count_faults}
-use Rattle.asl_terms.proofs.Settled.{at_some, at_none}
+use Rattle.term_plans.specs.Plans.{plan_of, plans_of, plan_at, omitted, how_many}
+use Rattle.term_plans.specs.Places.{fault_at}
+use Rattle.asl_terms.specs.Terms.{holes_in, counted, count_faults}
+use Rattle.term_plans.proofs.Lists.{at_some, at_none}
 use Rattle.asl_terms.proofs.Terms.{plan_count, nothing_more}
 
 -- how often `%o` stands in a format

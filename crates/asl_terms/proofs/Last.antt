@@ -3,9 +3,9 @@ use Rattle.std.proofs.Common.{◌≡◌, ℕ, zero, suc, ◌+◌, ◌<◌, lengt
 use Rattle.iasl_messages.specs.declared.place.Place.{Place}
 use Rattle.asl_tree.specs.declared.term.Node.{Node}
 use Rattle.asl_tree.specs.declared.term.Term as D
-use Rattle.asl_terms.specs.Plans.{Plan, Plans, no_plans, plan, omitted, plan_of, plans_of, join, last_behind, last_plan, before_end, before_last, with_end, with_last}
-use Rattle.asl_terms.specs.Terms.{one_plan}
-use Rattle.asl_terms.proofs.Settled.{push_is}
+use Rattle.term_plans.specs.Plans.{Plan, Plans, no_plans, plan, omitted, plan_of, plans_of, join, last_behind, last_plan, before_end, before_last, with_end, with_last}
+use Rattle.term_plans.specs.Plans.{one_plan}
+use Rattle.term_plans.proofs.Lists.{push_is}
 
 -- ---- behind others
 

@@ -1,5 +1,3 @@
-pub mod Plans
-pub mod Constants
 pub mod Terms
 pub mod Leaves
 pub mod Bracketed

@@ -5,7 +5,7 @@ use Rattle.acpi_values.specs.declared.width.Width.{Width}
 use Rattle.asl_words.specs.declared.operator.Slot.{Slot}
 use Rattle.asl_terms.specs.declared.work.Outcome.{Outcome}
 use Rattle.asl_terms.specs.declared.work.Outcome.TheVariants as outcome
-use Rattle.asl_terms.specs.Plans.{Plan, an_integer}
+use Rattle.term_plans.specs.Plans.{Plan, an_integer}
 use Rattle.asl_terms.specs.Terms.{fine, refused, come_to, evaluated}
 
 pub come_stays : (width : Width) (s : Slot) (place : Place) (o : Outcome) (p q : Plan) → p ≡ q → o ≡ outcome.Stays → come_to o place q ≡ evaluated width s place q → evaluated width s place p ≡ fine p

@@ -1,40 +1,15 @@
 -- The arguments of forms, by their nodes.
 use Rattle.std.proofs.Common.{◌≡◌, ℕ, zero, suc, ◌+◌, ◌<◌, ◌≤◌, length, get_or, set, take, drop, add-one, arith, List, [], ◌∷◌, ◌++◌, refl, ap, ◌∙◌, sym, true, false, if◌then◌else◌, None, Vec, Global}
 use Rattle.std.specs.List.{remove}
-use Rattle.asl_tree.specs.declared.path.Path.{Path}
 use Rattle.asl_tree.specs.declared.term.Op.{Op}
 use Rattle.asl_tree.specs.declared.term.Literal.{Literal}
 use Rattle.asl_tree.specs.declared.term.Node.{Node}
 use Rattle.asl_tree.specs.declared.term.Term as D
 use Rattle.acpi_values.specs.declared.width.Width.{Width}
-use Rattle.asl_terms.specs.Plans.{Plans, no_plans, plan, omitted, a_form, plan_of, plans_of, plan_at, number_of, first_plans, join, constant_of}
-use Rattle.asl_terms.specs.Terms.{is_stated, one_plan, zero_plan, one_word, for_settled, few_elements, is_default_plan, default_last}
-use Rattle.asl_terms.proofs.Plans.{plan_form, plan_call}
-
-pub number_form : (o : Op) (args body : Vec Node Global) → number_of (plan_of (D.Form o args body)) ≡ 0
-number_form o args body = ap number_of (plan_form o args body)
-
-pub number_call : (path : Path) (args : Vec Node Global) → number_of (plan_of (D.Call path args)) ≡ 0
-number_call path args = ap number_of (plan_call path args)
-
-pub at_some : (nodes : List Node) (i : ℕ) (d : Node) → i < length nodes → plan_at (plans_of nodes) i ≡ plan_of (get_or nodes i d).term
-unfolding plans_of
-at_some [] i d lt = absurd (omega (arith, lt))
-at_some (node ∷ nodes) zero d lt = refl
-at_some (node ∷ nodes) (suc i) d lt = at_some nodes i d (omega (arith, lt))
-
-pub at_none : (nodes : List Node) (i : ℕ) → length nodes ≤ i → plan_at (plans_of nodes) i ≡ omitted
-unfolding plans_of
-at_none [] zero le = refl
-at_none [] (suc i) le = refl
-at_none (node ∷ nodes) zero le = absurd (omega (arith, le))
-at_none (node ∷ nodes) (suc i) le = at_none nodes i (omega (arith, le))
-
-pub number_some : (nodes : List Node) (i : ℕ) (d : Node) → i < length nodes → d ≡ get_or nodes i d → number_of (plan_of d.term) ≡ number_of (plan_at (plans_of nodes) i)
-number_some nodes i d lt e = ap (λ (n : Node). number_of (plan_of n.term)) e ∙ ap number_of (sym (at_some nodes i d lt))
-
-pub number_none : (nodes : List Node) (i : ℕ) → length nodes ≤ i → number_of (plan_at (plans_of nodes) i) ≡ 0
-number_none nodes i le = ap number_of (at_none nodes i le)
+use Rattle.term_plans.specs.Plans.{Plans, no_plans, plan, a_form, plan_of, plans_of, plan_at, first_plans, join, constant_of, one_plan}
+use Rattle.asl_terms.specs.Terms.{is_stated, zero_plan, one_word, for_settled, few_elements, is_default_plan, default_last}
+use Rattle.term_plans.proofs.Plans.{plan_form}
+use Rattle.term_plans.proofs.Lists.{push_is, at_some, at_none, no_nodes, join_first}
 
 pub stated_some : (nodes : List Node) (i : ℕ) (d : Node) → i < length nodes → d ≡ get_or nodes i d → is_stated (plan_of d.term) ≡ is_stated (plan_at (plans_of nodes) i)
 stated_some nodes i d lt e = ap (λ (n : Node). is_stated (plan_of n.term)) e ∙ ap is_stated (sym (at_some nodes i d lt))
@@ -42,14 +17,7 @@ stated_some nodes i d lt e = ap (λ (n : Node). is_stated (plan_of n.term)) e �
 pub stated_none : (nodes : List Node) (i : ℕ) → length nodes ≤ i → is_stated (plan_at (plans_of nodes) i) ≡ false
 stated_none nodes i le = ap is_stated (at_none nodes i le)
 
-pub ruleset at_rules = (number_some, number_none)
-
 pub ruleset given_rules = (stated_some, stated_none)
-
-pub push_is : (nodes : List Node) (node : Node) → plans_of (nodes ++ node ∷ []) ≡ join (plans_of nodes) (one_plan node.place (plan_of node.term))
-unfolding plans_of
-push_is [] node = refl
-push_is (n ∷ ns) node = ap (plan n.place (plan_of n.term)) (push_is ns node)
 
 pub few_some : (width : Width) (nodes : List Node) (d : Node) → 0 < length nodes → d ≡ get_or nodes 0 d → constant_of width (plan_of d.term) ≡ constant_of width (plan_at (plans_of nodes) 0)
 few_some width nodes d lt e = ap (λ (n : Node). constant_of width (plan_of n.term)) e ∙ ap (constant_of width) (sym (at_some nodes 0 d lt))
@@ -66,14 +34,6 @@ unfolding plans_of
 first_are zero nodes = refl
 first_are (suc n) [] = refl
 first_are (suc n) (node ∷ nodes) = ap (plan node.place (plan_of node.term)) (first_are n nodes)
-
-pub join_nothing : (ps : Plans) → join ps no_plans ≡ ps
-join_nothing no_plans = refl
-join_nothing (plan place p ps) = ap (plan place p) (join_nothing ps)
-
-pub no_nodes : plans_of [] ≡ no_plans
-unfolding plans_of
-no_nodes = refl
 
 pub zero_is : (args body : Vec Node Global) → args.items ≡ [] → body.items ≡ [] → plan_of (D.Form (Op.Literal Literal.Zero) args body) ≡ zero_plan
 zero_is args body e f = plan_form (Op.Literal Literal.Zero) args body ∙ ap (λ ns. a_form (Op.Literal Literal.Zero) (plans_of ns) (plans_of body.items)) e ∙ ap (λ ns. a_form (Op.Literal Literal.Zero) (plans_of []) (plans_of ns)) f ∙ ap (λ ps. a_form (Op.Literal Literal.Zero) ps ps) no_nodes
@@ -110,10 +70,6 @@ test_put (start ∷ test ∷ nodes) node d lt e f g =
     ∙ ap (λ b. plan start.place (plan_of start.term) (plan test.place (if b then plan_of test.term else one_word) (plans_of nodes))) (sym e)
 
 pub ruleset test_rules = (no_test, test_stays, test_put)
-
-pub join_first : (ps : Plans) → join (plans_of []) ps ≡ ps
-unfolding plans_of
-join_first ps = refl
 
 pub ruleset single_rules = (join_first, no_nodes)
 

@@ -9,7 +9,7 @@ use Rattle.asl_words.specs.declared.operator.Slot.{Slot}
 use Rattle.acpi_state.specs.Outcomes.{choose}
 use Rattle.asl_syntax.specs.Written.{writtens, written_in}
 use Rattle.word_meanings.specs.Meanings.{unfit}
-use Rattle.asl_terms.specs.Plans.{an_integer}
+use Rattle.term_plans.specs.Plans.{an_integer}
 use Rattle.asl_terms.specs.Terms.{is_type, is_bare_type, is_given, is_type_or_list, types_shape, most_types, refused, fine}
 use Rattle.asl_terms.specs.AtRaw.{is_type_at, are_types_at, is_type_or_list_at, are_all_types_at, types_at, listed_at, is_some}
 use Rattle.asl_terms.proofs.Terms.{nothing_more}

@@ -2,7 +2,7 @@
 use Rattle.std.specs.Prelude.{ℕ, Bool, true, false, List, [], Option, Some, None}
 use Rattle.iasl_messages.specs.declared.place.Place.{Place}
 use Rattle.asl_syntax.specs.declared.raw.Raw.{Raw}
-use Rattle.asl_terms.specs.Plans.{Plan, omitted, Plans, no_plans, plan}
+use Rattle.term_plans.specs.Plans.{Plan, omitted, Plans, no_plans, plan}
 use Rattle.asl_words.specs.declared.operator.Slot.{Slot}
 use Rattle.asl_syntax.specs.Written.{written, writtens}
 use Rattle.asl_terms.specs.Terms.{Shaped, place_of, listed_shape, types_shape, is_type, are_types, is_type_or_list, are_all_types}

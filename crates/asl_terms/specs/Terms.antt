@@ -38,9 +38,10 @@ use Rattle.asl_words.specs.declared.operator.FieldWord.{FieldWord}
 use Rattle.word_meanings.specs.Meanings.{meaning_of, unfit, takes_expression, takes_known}
 use Rattle.asl_words.specs.Texts.{has_form, is_all_text}
 use Rattle.resource_macros.specs.Identifiers.{eisaid_of, uuid_of, utf16_of}
-use Rattle.asl_terms.specs.Plans.{Plan, an_integer, a_text, a_fill, a_word, a_local, an_arg, debug, omitted, a_name}
-use Rattle.asl_terms.specs.Plans.{an_offset, an_access, a_form, Plans, no_plans, plan, join, number_of, plan_at, first_plans}
-use Rattle.asl_terms.specs.Plans.{first_alone, is_omitted, how_many, constant_of}
+use Rattle.term_plans.specs.Plans.{Plan, an_integer, a_text, a_fill, a_word, a_local, an_arg, debug, omitted, a_name}
+use Rattle.term_plans.specs.Plans.{an_offset, an_access, a_form, Plans, no_plans, plan, join, number_of, plan_at, first_plans}
+use Rattle.term_plans.specs.Plans.{first_alone, is_omitted, how_many, constant_of, one_plan}
+use Rattle.term_plans.specs.Places.{fault_at, nowhere}
 
 -- ---- what comes of a part of a source: its errors in order, and its tree, which counts where there are none
 
@@ -51,14 +52,8 @@ pub record Shaped (A : Type 0) : Type 0 where
 abbrev pub fine : {A : Type 0} → A → Shaped A
 fine made = record { faults = []; made = made }
 
-abbrev pub fault_at : ℕ → Place → Message
-fault_at number place = record { number = number; place = place; name = [] }
-
 abbrev pub refused : ℕ → Place → Shaped Plan
 refused number place = record { faults = fault_at number place ∷ []; made = omitted }
-
-abbrev pub nowhere : Place
-nowhere = record { file = 0; line = 0; column = 0 }
 
 -- ---- items: what a word is, where it may stand, and what it takes
 
@@ -283,9 +278,6 @@ listed_shape s place ws = choose (most_types s) (refused (unfit s) place) (λ mo
 -- the flags of a method: the number of its arguments, whether it is serialized, and its sync level
 abbrev pub method_flags : Plans → ℕ
 method_flags ps = number_of (plan_at ps 1) % 8 + 8 * (number_of (plan_at ps 2) % 2) + 16 * (number_of (plan_at ps 3) % 16)
-
-abbrev pub one_plan : Place → Plan → Plans
-one_plan place p = plan place p no_plans
 
 abbrev pub zero_plan : Plan
 zero_plan = a_form (Op.Literal Literal.Zero) no_plans no_plans

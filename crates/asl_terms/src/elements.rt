@@ -1,7 +1,7 @@
 //! The words of a field's list, by what their arguments come to (ACPI Specification 6.4, 19.6.48, 19.6.3 and 19.6.16).
 ghost use Rattle.std.specs.Prelude.{◌≡◌, ◌%◌, IfOk};
 ghost use Rattle.asl_terms.specs.Terms as spec;
-ghost use Rattle.asl_terms.specs.Plans.{plan_of, plans_of, plan_at, number_of};
+ghost use Rattle.term_plans.specs.Plans.{plan_of, plans_of, plan_at, number_of};
 
 use crate::macros::first_term;
 use crate::settle::{number_at, number_in};
@@ -14,7 +14,7 @@ use std::alloc::{AllocError, Global};
 const ATTRIB_BYTES: u8 = 0x0B;
 
 // An access with its attribute.
-#[tactic(auto, using(crate::proofs::FieldWords::accessed_rules), unfolding(crate::specs::Plans::plan_of))]
+#[tactic(auto, using(crate::proofs::FieldWords::accessed_rules), unfolding(term_plans::specs::Plans::plan_of))]
 fn accessed_as(access: u8, attribute: &Term) -> Term
     ensures { plan_of result ≡ spec.accessed_as access (plan_of attribute.now) }
 {
@@ -49,7 +49,7 @@ fn access_term(args: &[Node]) -> Term
 }
 
 // A descriptor as a template of its own.
-#[tactic(auto, using(crate::proofs::FieldWords::connected_rules), unfolding(crate::specs::Plans::plan_of))]
+#[tactic(auto, using(crate::proofs::FieldWords::connected_rules), unfolding(term_plans::specs::Plans::plan_of))]
 fn connected_to(alloc: Global, term: Term) -> Result<Term, AllocError>
     ensures { IfOk result (λ made. plan_of made ≡ spec.connected_to (plan_of term)) }
 {
@@ -70,7 +70,7 @@ fn connected_to(alloc: Global, term: Term) -> Result<Term, AllocError>
 
 /// What a word of a field's list comes to: the place of the next byte, an access, or what units are connected to; and
 /// for an attribute that has a length an access with it.
-#[tactic(auto, using(crate::proofs::Terms::access_term), unfolding(crate::specs::Plans::plan_of))]
+#[tactic(auto, using(term_plans::proofs::Terms::access_term), unfolding(term_plans::specs::Plans::plan_of))]
 pub fn element_term(
     alloc: Global,
     word: FieldWord,

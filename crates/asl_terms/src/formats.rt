@@ -2,7 +2,7 @@
 ghost use Rattle.std.specs.Prelude.{◌≡◌, ◌++◌, ◌+◌, ◌==◌, suc, length, OnOk};
 ghost use Rattle.asl_tree.specs.Formats.{cut};
 ghost use Rattle.asl_terms.specs.Terms as spec;
-ghost use Rattle.asl_terms.specs.Plans.{plan_of, plan_at, plans_of};
+ghost use Rattle.term_plans.specs.Plans.{plan_of, plan_at, plans_of};
 
 use crate::work::{Work, tell};
 use asl_tree::term::{Control, Node, Op, Term};
@@ -34,7 +34,7 @@ fn holes(format: &[u8]) -> usize
 }
 
 // How many arguments a term asks for, where it is a format.
-#[tactic(auto, unfolding(crate::specs::Plans::plan_of))]
+#[tactic(auto, unfolding(term_plans::specs::Plans::plan_of))]
 fn holes_in(term: &Term) -> Option<usize>
     ensures { result ≡ spec.holes_in (plan_of term.now) }
 {

@@ -3,7 +3,7 @@ ghost use Rattle.std.specs.Prelude.{◌≡◌, ◌++◌, ◌∷◌, [], OnOk, If
 ghost use Rattle.asl_terms.specs.Terms as spec;
 ghost use Rattle.asl_words.specs.Paths;
 ghost use Rattle.asl_terms.specs.AtRaw as at;
-ghost use Rattle.asl_terms.specs.Plans.{plan_of, plans_of, join};
+ghost use Rattle.term_plans.specs.Plans.{plan_of, plans_of, join, one_plan};
 
 use crate::brackets::is_given;
 use crate::macros::macro_text;
@@ -42,7 +42,7 @@ pub fn place_in(place: Place, raw: &SyntaxNode<'_>) -> Place
 }
 
 /// A number, where it is read so.
-#[tactic(auto, using(crate::proofs::Terms::nothing_more), unfolding(crate::specs::Plans::plan_of))]
+#[tactic(auto, using(crate::proofs::Terms::nothing_more), unfolding(term_plans::specs::Plans::plan_of))]
 pub fn add_number(
     alloc: Global,
     work: &mut Work,
@@ -54,7 +54,7 @@ pub fn add_number(
     ensures faults { OnOk result (work.new.faults.items ≡ work.old.faults.items ++ (spec.number_shape slot.now place.now value).faults) }
     ensures made { OnOk result
         (plans_of nodes.new.items ≡ join (plans_of nodes.old.items)
-        (spec.one_plan place.now (spec.number_shape slot.now place.now value).made)) }
+        (one_plan place.now (spec.number_shape slot.now place.now value).made)) }
 {
     match *slot {
         Slot::Term { .. } => add_refused(alloc, work, nodes, NOT_ALLOWED_HERE, *place),
@@ -69,7 +69,7 @@ pub fn add_number(
     }
 }
 
-#[tactic(auto, unfolding(crate::specs::Plans::plan_of))]
+#[tactic(auto, unfolding(term_plans::specs::Plans::plan_of))]
 fn add_copy(
     alloc: Global,
     nodes: &mut Vec<Node>,
@@ -77,7 +77,7 @@ fn add_copy(
     bytes: &SyntaxText<'_>,
 ) -> Result<(), AllocError>
     ensures { OnOk result (plans_of nodes.new.items ≡ join (plans_of nodes.old.items)
-        (spec.one_plan place.now (spec.text_plan bytes.now))) }
+        (one_plan place.now (spec.text_plan bytes.now))) }
 {
     let copy = Text::from_bytes(alloc, bytes.as_bytes())?;
     push(nodes, *place, Term::Text(copy))
@@ -105,7 +105,7 @@ fn add_string(
     ensures faults { OnOk result (work.new.faults.items ≡ work.old.faults.items ++ (spec.string_shape form place.now bytes.now).faults) }
     ensures made { OnOk result
         (plans_of nodes.new.items ≡ join (plans_of nodes.old.items)
-        (spec.one_plan place.now (spec.string_shape form place.now bytes.now).made)) }
+        (one_plan place.now (spec.string_shape form place.now bytes.now).made)) }
 {
     if has_form(form, bytes.as_bytes()) && is_text(bytes.as_bytes()) {
         add_copy(alloc, nodes, place, bytes)
@@ -128,7 +128,7 @@ fn add_macro_text(
         (work.new.faults.items ≡ work.old.faults.items ++ (spec.macro_text text_macro place.now bytes.now).faults) }
     ensures made { OnOk result
         (plans_of nodes.new.items ≡ join (plans_of nodes.old.items)
-        (spec.one_plan place.now (spec.macro_text text_macro place.now bytes.now).made)) }
+        (one_plan place.now (spec.macro_text text_macro place.now bytes.now).made)) }
 {
     let term = macro_text(alloc, work, text_macro, *place, bytes)?;
     push(nodes, *place, term)
@@ -146,7 +146,7 @@ pub fn add_text(
     ensures faults { OnOk result (work.new.faults.items ≡ work.old.faults.items ++ (spec.text_shape slot.now place.now bytes.now).faults) }
     ensures made { OnOk result
         (plans_of nodes.new.items ≡ join (plans_of nodes.old.items)
-        (spec.one_plan place.now (spec.text_shape slot.now place.now bytes.now).made)) }
+        (one_plan place.now (spec.text_shape slot.now place.now bytes.now).made)) }
 {
     match *slot {
         Slot::Expression => add_string(alloc, work, nodes, StringForm::Any, place, bytes),
@@ -161,7 +161,7 @@ pub fn add_text(
 }
 
 /// A name without arguments.
-#[tactic(auto, using(crate::proofs::Terms::nothing_more), unfolding(crate::specs::Plans::plan_of))]
+#[tactic(auto, using(crate::proofs::Terms::nothing_more), unfolding(term_plans::specs::Plans::plan_of))]
 pub fn add_path(
     alloc: Global,
     work: &mut Work,
@@ -173,7 +173,7 @@ pub fn add_path(
         (work.new.faults.items ≡ work.old.faults.items ++ (spec.path_shape place.now (Paths.path_of text.now)).faults) }
     ensures made { OnOk result
         (plans_of nodes.new.items ≡ join (plans_of nodes.old.items)
-        (spec.one_plan place.now (spec.path_shape place.now (Paths.path_of text.now)).made)) }
+        (one_plan place.now (spec.path_shape place.now (Paths.path_of text.now)).made)) }
 {
     match path_of(alloc, text)? {
         Some(path) => push(nodes, *place, Term::Name(path)),
@@ -191,7 +191,7 @@ fn word_number(slot: Slot, number: u64) -> u64
 }
 
 /// What a word of a known meaning stands as: a number, a Local, an Arg or the debug object.
-#[tactic(auto, unfolding(crate::specs::Plans::plan_of))]
+#[tactic(auto, unfolding(term_plans::specs::Plans::plan_of))]
 pub fn known_term(slot: Slot, known: Known) -> Term
     ensures { plan_of result ≡ spec.known_plan slot known }
 {
@@ -285,7 +285,7 @@ fn are_all_types(raws: &[SyntaxNode<'_>]) -> bool
     true
 }
 
-#[tactic(auto, using(crate::proofs::Types::counted_rules), unfolding(crate::specs::Plans::plan_of))]
+#[tactic(auto, using(crate::proofs::Types::counted_rules), unfolding(term_plans::specs::Plans::plan_of))]
 fn types(
     alloc: Global,
     work: &mut Work,
@@ -347,7 +347,7 @@ pub fn add_list(
     ensures faults { OnOk result (work.new.faults.items ≡ work.old.faults.items ++ (at.listed_at slot.now place.now raws.now).faults) }
     ensures made { OnOk result
         (plans_of nodes.new.items ≡ join (plans_of nodes.old.items)
-        (spec.one_plan place.now (at.listed_at slot.now place.now raws.now).made)) }
+        (one_plan place.now (at.listed_at slot.now place.now raws.now).made)) }
 {
     let term = listed(alloc, work, *slot, *place, raws)?;
     push(nodes, *place, term)

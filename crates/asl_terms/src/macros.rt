@@ -1,7 +1,7 @@
 //! Macros for identifiers and texts, which stand for what their strings come to.
 ghost use Rattle.std.specs.Prelude.{◌≡◌, ◌++◌, OnOk, IfOk};
 ghost use Rattle.asl_terms.specs.Terms as spec;
-ghost use Rattle.asl_terms.specs.Plans.{plan_of, plans_of, plan_at};
+ghost use Rattle.term_plans.specs.Plans.{plan_of, plans_of, plan_at};
 ghost use Rattle.resource_macros.specs.Identifiers.{eisaid_of, uuid_of};
 
 use crate::nodes::push;
@@ -38,7 +38,7 @@ pub fn buffer(
 }
 
 // The number of an EISA identifier.
-#[tactic(auto, using(crate::proofs::Terms::nothing_more), unfolding(crate::specs::Plans::plan_of))]
+#[tactic(auto, using(crate::proofs::Terms::nothing_more), unfolding(term_plans::specs::Plans::plan_of))]
 fn eisa(
     alloc: Global,
     work: &mut Work,

@@ -1,7 +1,7 @@
 //! Nodes behind the others of their list.
 ghost use Rattle.std.specs.Prelude.{◌≡◌, ◌<◌, ◌++◌, vec_len, OnOk};
 ghost use Rattle.asl_terms.specs.Terms as spec;
-ghost use Rattle.asl_terms.specs.Plans.{plan_of, plans_of, join, last_plan, before_last, with_last};
+ghost use Rattle.term_plans.specs.Plans.{plan_of, plans_of, join, last_plan, before_last, with_last, one_plan};
 
 use crate::work::{Work, tell};
 use asl_tree::term::{Node, Term};
@@ -12,7 +12,7 @@ use std::alloc::{AllocError, Global};
 #[inline(always)]
 #[tactic(auto, using(crate::proofs::Settled::push_rules))]
 pub fn push(nodes: &mut Vec<Node>, place: Place, term: Term) -> Result<(), AllocError>
-    ensures { OnOk result (plans_of nodes.new.items ≡ join (plans_of nodes.old.items) (spec.one_plan place (plan_of term))) }
+    ensures { OnOk result (plans_of nodes.new.items ≡ join (plans_of nodes.old.items) (one_plan place (plan_of term))) }
 {
     nodes.reserve(1)?;
     nodes.push_reserved(Node { id: 0, place, term });
@@ -21,7 +21,7 @@ pub fn push(nodes: &mut Vec<Node>, place: Place, term: Term) -> Result<(), Alloc
 
 /// An error without a name, and what is left out in place of a term.
 #[inline(never)]
-#[tactic(auto, unfolding(crate::specs::Plans::plan_of))]
+#[tactic(auto, unfolding(term_plans::specs::Plans::plan_of))]
 pub fn add_refused(
     alloc: Global,
     work: &mut Work,
@@ -31,7 +31,7 @@ pub fn add_refused(
 ) -> Result<(), AllocError>
     ensures faults { OnOk result (work.new.faults.items ≡ work.old.faults.items ++ (spec.refused number place).faults) }
     ensures made { OnOk result
-        (plans_of nodes.new.items ≡ join (plans_of nodes.old.items) (spec.one_plan place (spec.refused number place).made)) }
+        (plans_of nodes.new.items ≡ join (plans_of nodes.old.items) (one_plan place (spec.refused number place).made)) }
 {
     tell(alloc, work, number, place)?;
     push(nodes, place, Term::Omitted)

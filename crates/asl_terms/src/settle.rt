@@ -1,7 +1,7 @@
 //! The arguments of a form, from those that are written.
 ghost use Rattle.std.specs.Prelude.{◌≡◌, ◌≤◌, ◌∷◌, [], slice_get, take, OnOk, IfOk};
 ghost use Rattle.asl_terms.specs.Terms as spec;
-ghost use Rattle.asl_terms.specs.Plans.{plan_of, plans_of, plan_at, number_of, first_plans, join, constant_of};
+ghost use Rattle.term_plans.specs.Plans.{plan_of, plans_of, plan_at, number_of, first_plans, join, constant_of, one_plan};
 
 use crate::nodes::push;
 use crate::work::{is_omitted, value_of};
@@ -12,7 +12,7 @@ use iasl_messages::place::Place;
 use std::alloc::{AllocError, Global};
 
 /// The number that a term is; 0 where it is none.
-#[tactic(auto, unfolding(crate::specs::Plans::plan_of))]
+#[tactic(auto, unfolding(term_plans::specs::Plans::plan_of))]
 pub fn number_in(term: &Term) -> u64
     ensures { result ≡ number_of (plan_of term.now) }
 {
@@ -23,7 +23,7 @@ pub fn number_in(term: &Term) -> u64
 }
 
 /// The number that an argument is, counted from 0; 0 where it is none.
-#[tactic(auto, using(crate::proofs::Settled::at_rules))]
+#[tactic(auto, using(term_plans::proofs::Lists::at_rules))]
 pub fn number_at(nodes: &[Node], i: usize) -> u64
     ensures { result ≡ number_of (plan_at (plans_of nodes.now) i) }
 {
@@ -73,7 +73,7 @@ fn flags_of(nodes: &[Node]) -> u64
     number_at(nodes, 1) % 8 + 8 * (number_at(nodes, 2) % 2) + 16 * (number_at(nodes, 3) % 16)
 }
 
-#[tactic(auto, unfolding(crate::specs::Plans::plan_of))]
+#[tactic(auto, unfolding(term_plans::specs::Plans::plan_of))]
 fn method(nodes: &mut Vec<Node>, place: Place) -> Result<(), AllocError>
     ensures { OnOk result (plans_of nodes.new.items ≡ spec.method_settled place (plans_of nodes.old.items)) }
 {
@@ -82,7 +82,7 @@ fn method(nodes: &mut Vec<Node>, place: Place) -> Result<(), AllocError>
     Ok(push(nodes, place, Term::Integer(flags))?)
 }
 
-#[tactic(auto, unfolding(crate::specs::Plans::plan_of))]
+#[tactic(auto, unfolding(term_plans::specs::Plans::plan_of))]
 fn mutex(nodes: &mut Vec<Node>, place: Place) -> Result<(), AllocError>
     ensures { OnOk result (plans_of nodes.new.items ≡ spec.mutex_settled place (plans_of nodes.old.items)) }
 {
@@ -102,7 +102,7 @@ fn field_flags(nodes: &[Node], names: usize) -> u64
 }
 
 // The arguments of a field whose words stand behind so many others.
-#[tactic(auto, unfolding(crate::specs::Plans::plan_of))]
+#[tactic(auto, unfolding(term_plans::specs::Plans::plan_of))]
 fn field(nodes: &mut Vec<Node>, place: Place, names: usize) -> Result<(), AllocError>
     requires { names ≤ 3 }
     ensures { OnOk result (plans_of nodes.new.items ≡ spec.field_settled names place (plans_of nodes.old.items)) }
@@ -112,7 +112,7 @@ fn field(nodes: &mut Vec<Node>, place: Place, names: usize) -> Result<(), AllocE
     Ok(push(nodes, place, Term::Integer(flags))?)
 }
 
-#[tactic(auto, using(crate::proofs::Settled::join_nothing), unfolding(crate::specs::Plans::plan_of))]
+#[tactic(auto, using(term_plans::proofs::Lists::join_nothing), unfolding(term_plans::specs::Plans::plan_of))]
 fn external(nodes: &mut Vec<Node>, place: Place) -> Result<(), AllocError>
     ensures { OnOk result (plans_of nodes.new.items ≡ spec.external_settled place (plans_of nodes.old.items)) }
 {
@@ -141,7 +141,7 @@ fn zero(alloc: Global) -> Term
 
 #[tactic(auto, using(crate::proofs::Settled::single_rules))]
 fn only(alloc: Global, nodes: &mut Vec<Node>, place: Place, term: Term) -> Result<(), AllocError>
-    ensures { OnOk result (plans_of nodes.new.items ≡ spec.one_plan place (plan_of term)) }
+    ensures { OnOk result (plans_of nodes.new.items ≡ one_plan place (plan_of term)) }
 {
     nodes.truncate(0);
     Ok(push(nodes, place, term)?)
@@ -193,7 +193,7 @@ fn few_elements(width: Width, nodes: &[Node]) -> Option<u64>
     }
 }
 
-#[tactic(auto, unfolding(crate::specs::Plans::plan_of))]
+#[tactic(auto, unfolding(term_plans::specs::Plans::plan_of))]
 fn package(
     alloc: Global,
     width: Width,
@@ -214,7 +214,7 @@ fn is_default_op(op: Op) -> bool
     matches!(op, Op::Control(Control::Default))
 }
 
-#[tactic(auto, unfolding(crate::specs::Plans::plan_of))]
+#[tactic(auto, unfolding(term_plans::specs::Plans::plan_of))]
 fn is_default(term: &Term) -> bool
     ensures { result ≡ spec.is_default_plan (plan_of term.now) }
 {

@@ -1,8 +1,8 @@
 //! The errors that are found on the way.
 ghost use Rattle.std.specs.Prelude.{◌≡◌, ◌<◌, ◌++◌, false, vec_len, OnOk, IfOk};
 ghost use Rattle.asl_terms.specs.Terms as spec;
-ghost use Rattle.asl_terms.specs.Plans.{Plan, plan_of, plans_of, constant_of, last_plan, with_last};
-ghost use Rattle.asl_terms.specs.Plans.{is_omitted as is_left_out};
+ghost use Rattle.term_plans.specs.Plans.{Plan, plan_of, plans_of, constant_of, last_plan, with_last};
+ghost use Rattle.term_plans.specs.Plans.{is_omitted as is_left_out};
 ghost use Rattle.acpi_values.specs.declared.width.Width.{Width};
 ghost use Rattle.iasl_messages.specs.declared.place.Place.{Place};
 ghost use Rattle.asl_tree.specs.Names.{is_searched};
@@ -46,7 +46,7 @@ pub fn tell(alloc: Global, work: &mut Work, number: u16, place: Place) -> Result
 }
 
 /// An error without a name, in place of a term.
-#[tactic(auto, unfolding(crate::specs::Plans::plan_of))]
+#[tactic(auto, unfolding(term_plans::specs::Plans::plan_of))]
 pub fn refuse(alloc: Global, work: &mut Work, number: u16, place: Place) -> Result<Term, AllocError>
     ensures faults { OnOk result (work.new.faults.items ≡ work.old.faults.items ++ (spec.refused number place).faults) }
     ensures made { IfOk result (λ term. plan_of term ≡ (spec.refused number place).made) }
@@ -83,7 +83,7 @@ fn valued(least: u64, most: u64, constant: Result<u64, NoConstant>) -> Outcome
     }
 }
 
-#[tactic(auto, unfolding(crate::specs::Plans::plan_of))]
+#[tactic(auto, unfolding(term_plans::specs::Plans::plan_of))]
 fn is_member(term: &Term) -> bool
     ensures { result ≡ spec.is_member (plan_of term.now) }
 {
@@ -133,7 +133,7 @@ fn is_case_form(op: Op, args: &[Node], body: &[Node]) -> bool
     is_buffer(op) || (is_word(op) && are_none(args) && are_none(body))
 }
 
-#[tactic(auto, using(crate::proofs::Terms::case_form), unfolding(crate::specs::Plans::plan_of))]
+#[tactic(auto, using(crate::proofs::Terms::case_form), unfolding(term_plans::specs::Plans::plan_of))]
 fn is_case_member(term: &Term) -> bool
     ensures { result ≡ spec.is_case_member (plan_of term.now) }
 {
@@ -217,7 +217,7 @@ fn is_single(path: &Path) -> bool
     !path.root && path.up == 0 && path.segs.len() == 1
 }
 
-#[tactic(auto, unfolding(crate::specs::Plans::plan_of))]
+#[tactic(auto, unfolding(term_plans::specs::Plans::plan_of))]
 fn is_element(term: &Term) -> bool
     ensures { result ≡ spec.is_element (plan_of term.now) }
 {
@@ -228,7 +228,7 @@ fn is_element(term: &Term) -> bool
 }
 
 /// Whether an argument is left out.
-#[tactic(auto, unfolding(crate::specs::Plans::plan_of))]
+#[tactic(auto, unfolding(term_plans::specs::Plans::plan_of))]
 pub fn is_omitted(term: &Term) -> bool
     ensures { result ≡ is_left_out (plan_of term.now) }
 {
@@ -239,7 +239,7 @@ pub fn is_omitted(term: &Term) -> bool
 }
 
 /// The value of a constant argument at a width. Most are numbers, which want no further look.
-#[tactic(auto, using(crate::proofs::Constants::constant_is), unfolding(crate::specs::Plans::plan_of))]
+#[tactic(auto, using(term_plans::proofs::Constants::constant_is), unfolding(term_plans::specs::Plans::plan_of))]
 pub fn value_of(width: Width, term: &Term) -> Result<u64, NoConstant>
     ensures { result ≡ constant_of width (plan_of term.now) }
 {

@@ -1,5 +1,6 @@
 -- What a string has to be.
 use Rattle.std.specs.Prelude.{ℕ, nat_le, ◌==◌, Bool, true, false, ◌&&◌, ◌||◌, List, [], ◌∷◌, length, codes}
+use Rattle.std.specs.Char.{is_ascii_alphanumeric}
 use Rattle.std.specs.List.{list_all}
 use Rattle.std.specs.Str.{bytes_eq}
 use Rattle.asl_tree.specs.Formats.{is_format}
@@ -13,12 +14,9 @@ is_text_byte b = nat_le 1 b && nat_le b 127
 abbrev pub is_all_text : List ℕ → Bool
 is_all_text bytes = list_all is_text_byte bytes
 
-abbrev pub is_upper_or_digit : ℕ → Bool
-is_upper_or_digit b = (nat_le 65 b && nat_le b 90) || (nat_le 48 b && nat_le b 57)
-
--- OEM and one letter or digit
+-- OEM and one letter of either case, or one digit
 abbrev pub is_oem_signature : List ℕ → Bool
-is_oem_signature (a ∷ b ∷ c ∷ d ∷ []) = (a == 79) && ((b == 69) && ((c == 77) && is_upper_or_digit d))
+is_oem_signature (a ∷ b ∷ c ∷ d ∷ []) = (a == 79) && ((b == 69) && ((c == 77) && is_ascii_alphanumeric d))
 is_oem_signature _ = false
 
 abbrev pub is_signature : List ℕ → Bool

@@ -145,7 +145,7 @@ pub enum Body {
     /// There are none.
     No,
     Terms,
-    /// Bytes, or one string.
+    /// Bytes, or one string, which a comma may follow.
     Bytes,
     /// Members of a Package.
     Elements,

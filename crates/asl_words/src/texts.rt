@@ -18,19 +18,14 @@ pub fn is_text(bytes: &[u8]) -> bool
     bytes.iter().all(|byte| is_text_byte(*byte))
 }
 
-fn is_upper_or_digit(byte: u8) -> bool
-    ensures { result ≡ spec.is_upper_or_digit byte }
-{
-    (65 <= byte && byte <= 90) || (48 <= byte && byte <= 57)
-}
-
+// OEM and one letter or digit.
 fn is_oem_signature(text: &[u8]) -> bool
     ensures { result ≡ spec.is_oem_signature text.now }
 {
     let [first, second, third, last] = text else {
         return false;
     };
-    *first == b'O' && (*second == b'E' && (*third == b'M' && is_upper_or_digit(*last)))
+    *first == b'O' && (*second == b'E' && (*third == b'M' && last.is_ascii_alphanumeric()))
 }
 
 fn is_signature(text: &[u8]) -> bool

@@ -11,7 +11,7 @@ use Rattle.acpi_names.proofs.Closed.{number_within}
 use Rattle.acpi_names.specs.Errors.{NameError, name_errors, type_errors}
 use Rattle.acpi_names.specs.Terms.{are_terms}
 use Rattle.asl_numbers.specs.Numbers.{numbered_all}
-use Rattle.asl_terms.specs.Plans.{Plans}
+use Rattle.term_plans.specs.Plans.{Plans}
 use Rattle.asl_tree.specs.Tree.{Trees}
 use Rattle.name_checks.specs.Refusals.{Refuses}
 use Rattle.name_checks.specs.Messages.{message_of, first_errors, told_errors}

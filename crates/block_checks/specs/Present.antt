@@ -1,6 +1,6 @@
 -- What is found of the forms that stand in terms.
 use Rattle.std.specs.Prelude.{◌≡◌, ◌-◌, ◌^◌, min}
-use Rattle.asl_terms.specs.Plans.{Plans}
+use Rattle.term_plans.specs.Plans.{Plans}
 use Rattle.asl_numbers.specs.Numbers.{nodes as node_count}
 use Rattle.form_presence.specs.declared.present.Presence.{Presence}
 use Rattle.form_presence.specs.Present.{have_op, is_switch, is_field, is_list, is_form}

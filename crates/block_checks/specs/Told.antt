@@ -2,7 +2,7 @@
 use Rattle.std.specs.Prelude.{ℕ, nat_eq, Bool, ◌||◌, if◌then◌else◌, List, [], ◌∷◌, ◌++◌}
 use Rattle.iasl_messages.specs.declared.message.Message.{Message}
 use Rattle.acpi_values.specs.declared.width.Width.{Width}
-use Rattle.asl_terms.specs.Plans.{Plans}
+use Rattle.term_plans.specs.Plans.{Plans}
 use Rattle.name_notes.specs.Notes.{mentioned_notes}
 use Rattle.descriptor_fields.specs.Declaring.{declaring}
 use Rattle.descriptor_checks.specs.Resolved.{checked_terms, mentions_of, names_of, resolved_terms}
@@ -38,7 +38,7 @@ noted_of ps = mentioned_notes (names_of (checked_terms ps)) (owners_of (declarin
 
 -- the numbers of the errors of names that are of the class of kinds
 abbrev pub is_of_kinds : ℕ → Bool
-is_of_kinds number = nat_eq number 6051 || (nat_eq number 6054 || (nat_eq number 6050 || (nat_eq number 6056 || nat_eq number 6020)))
+is_of_kinds number = nat_eq number 6051 || (nat_eq number 6054 || (nat_eq number 6050 || nat_eq number 6056))
 
 -- the errors of statements and of the lists of fields are of the class of kinds: they come behind these, and not where names are
 -- wrong

@@ -4,7 +4,7 @@ ghost use Rattle.acpi_values.specs.Paths.{AbsolutePath};
 ghost use Rattle.acpi_values.specs.Revisions.{width_of};
 ghost use Rattle.asl_tree.specs.Tree.{Trees};
 ghost use Rattle.asl_tree.specs.View.{trees_of};
-ghost use Rattle.asl_terms.specs.Plans.{plans_of};
+ghost use Rattle.term_plans.specs.Plans.{plans_of};
 ghost use Rattle.asl_numbers.specs.Numbers.{numbered_all};
 ghost use Rattle.aml_code.specs.Header.{fields_of};
 ghost use Rattle.iasl_messages.specs.declared.message.Message.{Message};
@@ -27,8 +27,7 @@ use field_checks::check::list_faults;
 use form_presence::present::Presence;
 use iasl_messages::message::Messages;
 use iasl_messages::number::{
-    FIELD_NOT_WHOLE_BYTES, UNKNOWN_OPERATOR, WRONG_CALL_ARGUMENT_COUNT, WRONG_OBJECT_KIND,
-    WRONG_TYPE,
+    FIELD_NOT_WHOLE_BYTES, WRONG_CALL_ARGUMENT_COUNT, WRONG_OBJECT_KIND, WRONG_TYPE,
 };
 use statement_checks::check::statement_errors;
 use std::alloc::{AllocError, Global};
@@ -124,7 +123,7 @@ fn other_errors(
 }
 
 /// A block as it is compiled, with all that is wrong with it before it is lowered, and the notes on its names (ACPI Specification
-/// 6.4, 5.3, 5.6.8, 19.2 and 19.6). Of its names 6040 to 6046 are told, or where these are none 6050, 6051, 6054, 6056 and 6020 at
+/// 6.4, 5.3, 5.6.8, 19.2 and 19.6). Of its names 6040 to 6046 are told, or where these are none 6050, 6051, 6054 and 6056 at
 /// their uses; beside these 6052 and 6055 of statements, 6070, 6071 and 6074 of lists of fields, 6072 to 6075 of their accesses,
 /// 6050 of arguments, 6057 of lists that are longer than their sizes, and 6053 of values of Cases, in this order, and each in the
 /// order of the source; the notes are 3001 and 3003. The only error is want of memory, as which 2^32 nodes are answered, more than
@@ -173,7 +172,6 @@ fn is_of_kinds(number: u16) -> bool
         || number == WRONG_OBJECT_KIND
         || number == WRONG_TYPE
         || number == FIELD_NOT_WHOLE_BYTES
-        || number == UNKNOWN_OPERATOR
 }
 
 // The errors of statements, of the lists of fields and of their accesses behind those of kinds.

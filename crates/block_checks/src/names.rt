@@ -2,7 +2,7 @@
 ghost use Rattle.std.specs.Prelude.{◌≡◌, [], true, false, IfOk};
 ghost use Rattle.acpi_values.specs.Revisions.{width_of};
 ghost use Rattle.asl_tree.specs.View.{trees_of};
-ghost use Rattle.asl_terms.specs.Plans.{Plans, plans_of};
+ghost use Rattle.term_plans.specs.Plans.{Plans, plans_of};
 ghost use Rattle.asl_numbers.specs.Numbers.{numbered_all};
 ghost use Rattle.aml_code.specs.Header.{fields_of};
 ghost use Rattle.acpi_names.specs.Terms.{are_terms};

@@ -18,11 +18,6 @@ first_told (m ∷ ms) others = m ∷ ms
 abbrev pub is_of_names : ℕ → Bool
 is_of_names number = nat_le 6040 number && nat_le number 6046
 
--- whether errors are of the class of names, of which the first then is
-abbrev pub are_of_names : List Message → Bool
-are_of_names [] = false
-are_of_names (m ∷ ms) = is_of_names m.number
-
 -- the classes of errors, each told where there is none of those before: what is wrong with names; with kinds,
 -- statements and fields; Switches for which too few Locals are free, and Fors of which too many copies are made; tables
 -- that are too long

@@ -1,6 +1,6 @@
 //! Lists of messages.
 ghost use Rattle.std.specs.Prelude.{◌≡◌, ◌++◌, ◌∷◌, [], IfOk, IfErr};
-ghost use Rattle.block_outcomes.specs.Joined.{first_told as first_of, is_of_names as of_names, are_of_names as are_names};
+ghost use Rattle.block_outcomes.specs.Joined.{first_told as first_of, is_of_names as of_names};
 ghost use Rattle.iasl_messages.specs.declared.message.Stage.TheVariants as stages;
 
 use iasl_messages::message::{Message, Messages, Stage};
@@ -52,14 +52,4 @@ pub fn is_of_names(number: u16) -> bool
     ensures { result ≡ of_names number }
 {
     NAME_DECLARED_TWICE <= number && number <= PATH_IS_TOO_LONG
-}
-
-/// Whether errors are of the class of names, of which the first then is.
-pub fn are_of_names(errors: &Messages) -> bool
-    ensures { result ≡ are_names errors.now }
-{
-    match errors.get(0) {
-        Some(first) => is_of_names(first.number),
-        None => false,
-    }
 }

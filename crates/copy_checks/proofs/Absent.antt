@@ -5,7 +5,7 @@ use Rattle.std.proofs.lemmas.Bool.{or_parts}
 use Rattle.iasl_messages.specs.declared.place.Place.{Place}
 use Rattle.asl_tree.specs.declared.term.Control.TheVariants as Control
 use Rattle.asl_tree.specs.declared.term.Op.{Op}
-use Rattle.asl_terms.specs.Plans.{Plan, a_call, a_form, Plans, no_plans, plan}
+use Rattle.term_plans.specs.Plans.{Plan, a_call, a_form, Plans, no_plans, plan}
 use Rattle.form_presence.specs.Present.{is_form, has_op, have_op}
 use Rattle.copy_checks.specs.Copies.{is_for, earlier, for_at, first_for}
 

@@ -7,7 +7,7 @@ use Rattle.asl_tree.specs.declared.term.Op.{Op}
 use Rattle.asl_tree.specs.declared.term.Node.{Node}
 use Rattle.asl_tree.specs.declared.term.Term.{Term}
 use Rattle.asl_tree.specs.declared.term.Term as D
-use Rattle.asl_terms.specs.Plans.{plan_of, plans_of}
+use Rattle.term_plans.specs.Plans.{plan_of, plans_of}
 use Rattle.copy_checks.specs.Copies.{is_for, earlier, for_at, first_for}
 use Rattle.copy_checks.proofs.Terms.{call_is, form_is, of_leaves, plans_at, no_more}
 

@@ -10,8 +10,8 @@ use Rattle.asl_tree.specs.declared.term.Node.{Node}
 use Rattle.asl_tree.specs.declared.term.Term.{Term}
 use Rattle.asl_tree.specs.declared.term.Term as D
 use Rattle.asl_tree.specs.declared.term.Term.TheVariants as V
-use Rattle.asl_terms.specs.Plans.{Plan, an_integer, a_text, a_fill, a_word, a_local, an_arg, debug, omitted, a_name, a_unit, a_skip, an_offset, an_access, a_call, a_form, no_plans, plan, plan_of, plans_of}
-use Rattle.asl_terms.proofs.Plans.{plan_form, plan_call}
+use Rattle.term_plans.specs.Plans.{Plan, an_integer, a_text, a_fill, a_word, a_local, an_arg, debug, omitted, a_name, a_unit, a_skip, an_offset, an_access, a_call, a_form, no_plans, plan, plan_of, plans_of}
+use Rattle.term_plans.proofs.Plans.{plan_form, plan_call}
 use Rattle.asl_numbers.specs.Numbers.{inside, nodes}
 
 -- the plan of a call and of a form, by the nodes in it

@@ -5,7 +5,7 @@ use Rattle.iasl_messages.specs.declared.message.Message.{Message}
 use Rattle.asl_tree.specs.declared.term.Op.{Op}
 use Rattle.asl_tree.specs.declared.term.Control.TheVariants as Control
 use Rattle.asl_tree.specs.Tree.{Trees}
-use Rattle.asl_terms.specs.Plans.{Plan, a_call, a_form, Plans, no_plans, plan}
+use Rattle.term_plans.specs.Plans.{Plan, a_call, a_form, Plans, no_plans, plan}
 use Rattle.asl_numbers.specs.Numbers.{nodes}
 use Rattle.core_nodes.specs.Nodes.{nodes_in}
 use Rattle.copy_checks.specs.declared.copies.ProgramSize.{ProgramSize}

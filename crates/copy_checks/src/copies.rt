@@ -1,6 +1,6 @@
 //! What is told where too many copies are made.
 ghost use Rattle.std.specs.Prelude.{◌≡◌, ◌-◌, ◌^◌, ℕ, min, IfOk};
-ghost use Rattle.asl_terms.specs.Plans.{plan_of, plans_of};
+ghost use Rattle.term_plans.specs.Plans.{plan_of, plans_of};
 ghost use Rattle.asl_numbers.specs.Numbers.{nodes as node_count};
 ghost use Rattle.form_presence.specs.Present.{have_op, is_form};
 ghost use Rattle.copy_checks.specs.Copies.{IsSizeOf};

@@ -1,11 +1,11 @@
 -- Terms weigh no less with loops for their Switches: the chain of a loop keeps the Cases and the Default, and what stands for a Switch and
 -- for a Continue keeps the terms behind it.
-use Rattle.std.proofs.Common.{◌≡◌, ℕ, suc, ◌+◌, Bool, true, false, ◌≤◌, Option, Some, None, refl, arith}
+use Rattle.std.proofs.Common.{◌≡◌, ℕ, suc, ◌+◌, Bool, true, false, ◌≤◌, refl, arith}
 use Rattle.std.proofs.Math.Nat.{le_refl}
 use Rattle.asl_tree.specs.Tree.{Tree, Method, Container', Scope, If, ElseIf, Else, While, Switch, Case, Default, Break, Continue, Trees, no_trees, tree}
-use Rattle.hidden_locals.specs.Turns.{Plan, value_local, else_of, then_trees, loop_of, loop_terms, continue_terms}
+use Rattle.hidden_locals.specs.Turns.{Plan, value_local, then_trees, loop_of, loop_terms, continue_terms}
 use Rattle.hidden_locals.specs.Crossing.{have_continue}
-use Rattle.hidden_locals.specs.Switches.{plan_of, chain_of, unswitched, unswitched_all, links, default_link, without_switches}
+use Rattle.hidden_locals.specs.Switches.{plan_of, opened, unswitched, unswitched_all, links, default_link, without_switches}
 use Rattle.core_nodes.specs.Weights.{weight, weights, case_weights, default_weight}
 
 module _ (integer : ℕ) where
@@ -18,9 +18,10 @@ module _ (integer : ℕ) where
   turn_weighs : (value l : Tree) (chain : Trees) → weights integer chain ≤ weight integer (loop_of value l chain)
   turn_weighs value l chain = omega (arith, then_weighs chain (tree Break no_trees))
 
-  else_weighs : (o : Option Trees) → weights integer (else_of o) ≡ weights integer (chain_of o)
-  else_weighs None = refl
-  else_weighs (Some terms) = omega arith
+  opened_weighs : (ts : Trees) → weights integer (opened ts) ≡ weights integer ts
+  opened_weighs (tree (ElseIf test body) rest) = refl
+  opened_weighs (tree (Else body) no_trees) = omega arith
+  opened_weighs ts = refl
 
   loop_weighs : (plan : Plan) (crossed inside : Bool) (loop : Tree) (rest : Trees) → weight integer loop + weights integer rest ≤ weights integer (loop_terms plan crossed inside loop rest)
   loop_weighs plan false inside loop rest = omega arith
@@ -47,14 +48,15 @@ module _ (integer : ℕ) where
     all_keep : (ts : Trees) (plan : Plan) (level : ℕ) (inside : Bool) → weights integer ts ≤ weights integer (unswitched_all plan level inside ts)
     all_keep no_trees plan level inside = omega arith
     all_keep (tree (Switch value cases) ts) plan level inside =
-        let default : Option Trees = default_link plan level cases in
-        let chain : Trees = chain_of (links plan level cases default) in
+        let default : Trees = default_link plan level cases in
+        let chain : Trees = opened (links plan level cases default) in
         let loop : Tree = loop_of value (value_local plan level) chain in
         omega (
           arith,
           all_keep ts plan level inside,
           loop_weighs plan (have_continue cases) inside loop (unswitched_all plan level inside ts),
           turn_weighs value (value_local plan level) chain,
+          opened_weighs (links plan level cases default),
           links_keep cases plan level default,
           default_keeps cases plan level,
         )
@@ -62,15 +64,15 @@ module _ (integer : ℕ) where
     all_keep (tree t ts) plan level inside = omega (arith, term_keeps t plan level inside, all_keep ts plan level inside)
 
     -- the Cases of a Switch before what stands for its Default
-    links_keep : (ts : Trees) (plan : Plan) (level : ℕ) (default : Option Trees) → case_weights integer ts + weights integer (chain_of default) ≤ weights integer (chain_of (links plan level ts default))
+    links_keep : (ts : Trees) (plan : Plan) (level : ℕ) (default : Trees) → case_weights integer ts + weights integer default ≤ weights integer (links plan level ts default)
     links_keep no_trees plan level default = omega arith
     links_keep (tree (Case value body) ts) plan level default =
-        omega (arith, all_keep body plan (suc level) true, links_keep ts plan level default, else_weighs (links plan level ts default))
+        omega (arith, all_keep body plan (suc level) true, links_keep ts plan level default)
     links_keep (tree t ts) plan level default = links_keep ts plan level default
 
-    default_keeps : (ts : Trees) (plan : Plan) (level : ℕ) → default_weight integer ts ≤ weights integer (chain_of (default_link plan level ts))
+    default_keeps : (ts : Trees) (plan : Plan) (level : ℕ) → default_weight integer ts ≤ weights integer (default_link plan level ts)
     default_keeps no_trees plan level = omega arith
-    default_keeps (tree (Default body) ts) plan level = all_keep body plan (suc level) true
+    default_keeps (tree (Default body) ts) plan level = omega (arith, all_keep body plan (suc level) true)
     default_keeps (tree t ts) plan level = default_keeps ts plan level
 
   pub loops_weigh : (ts : Trees) → weights integer ts ≤ weights integer (without_switches ts)

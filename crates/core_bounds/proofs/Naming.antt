@@ -1,4 +1,4 @@
--- A program whose operators are named and whose ElseIfs are nested weighs no less than before.
+-- A program whose operators are named weighs no less than before.
 use Rattle.std.proofs.Common.{◌≡◌, ℕ, zero, suc, ◌+◌, ◌<◌, ◌≤◌, Bool, true, false, Some, None, refl, arith}
 use Rattle.std.proofs.Math.Nat.{le_refl}
 use Rattle.std.specs.Prelude.{if◌then◌else◌, not, nat_eq}
@@ -8,7 +8,7 @@ use Rattle.asl_tree.specs.declared.term.Compound.{Compound}
 use Rattle.asl_tree.specs.Symbols.{takes_target}
 use Rattle.asl_tree.specs.Tree.{Tree, Omitted, Call, Apply, Operated, Assigned, AssignedBy, Method, Container', Scope, If, ElseIf, Else, While, Switch, Case, Default, Trees, no_trees, tree}
 use Rattle.asl_meaning.specs.Meaning.{target_operator}
-use Rattle.asl_lower.specs.Nodes.{given, last_target, assigned, assigned_by, before, named, inner_args, named_args, named_all}
+use Rattle.asl_lower.specs.Nodes.{given, last_target, assigned, assigned_by, named, inner_args, named_all}
 use Rattle.core_nodes.specs.Weights.{leaves, leaves_in, weight, weights, case_weights, default_weight}
 
 module _ (integer : ℕ) where
@@ -50,12 +50,12 @@ module _ (integer : ℕ) where
       → leaves integer target + leaves integer value ≤ leaves integer (assigned (target_operator value) (inner_args value) (named target) (named value))
   assigned_keeps target (Operated op args) h k = by_takes (takes_target op) refl
     where
-      by_takes : (c : Bool) → takes_target op ≡ c → leaves integer target + leaves_in integer args ≤ leaves integer (assigned (if c then Some op else None) (named_args args) (named target) (named (Operated op args)))
+      by_takes : (c : Bool) → takes_target op ≡ c → leaves integer target + leaves_in integer args ≤ leaves integer (assigned (if c then Some op else None) (named_all args) (named target) (named (Operated op args)))
       by_takes true e =
-          let l = operated_keeps op (named_args args) (named target) (named (Operated op args)) e in
+          let l = operated_keeps op (named_all args) (named target) (named (Operated op args)) e in
           let none = omitted_none (row_of op).targets in
           omega (arith, h, k, l, none)
-      by_takes false e = let l = stored_keeps (named_args args) (named target) (named (Operated op args)) in omega (arith, h, k, l)
+      by_takes false e = let l = stored_keeps (named_all args) (named target) (named (Operated op args)) in omega (arith, h, k, l)
   assigned_keeps target value h k = let l = stored_keeps no_trees (named target) (named value) in omega (arith, h, k, l)
 
   -- ---- expressions
@@ -69,29 +69,11 @@ module _ (integer : ℕ) where
     leaves_keep (AssignedBy op target value) = let h = leaves_keep target in let k = leaves_keep value in let l = by_keeps op (named target) (named value) in omega (arith, h, k, l)
     leaves_keep t = le_refl (leaves integer t)
 
-    args_keep : (ts : Trees) → leaves_in integer ts ≤ leaves_in integer (named_args ts)
+    args_keep : (ts : Trees) → leaves_in integer ts ≤ leaves_in integer (named_all ts)
     args_keep no_trees = le_refl 0
     args_keep (tree t ts) = let h = leaves_keep t in let k = args_keep ts in omega (arith, h, k)
 
   -- ---- lists
-
-  -- an ElseIf before other terms
-  before_keeps : (t : Tree) (ts : Trees) → weight integer t + weights integer ts ≤ weights integer (before t ts)
-  before_keeps (ElseIf test body) (tree (Else other) rest) = omega arith
-  before_keeps (ElseIf test body) no_trees = omega arith
-  before_keeps (ElseIf test body) (tree t rest) = omega arith
-  before_keeps t ts = le_refl (weight integer t + weights integer ts)
-
-  -- among the Cases of a Switch
-  before_cases : (test : Tree) (body ts : Trees) → case_weights integer ts ≤ case_weights integer (before (ElseIf test body) ts)
-  before_cases test body (tree (Else other) rest) = le_refl (case_weights integer rest)
-  before_cases test body no_trees = le_refl 0
-  before_cases test body (tree t rest) = le_refl (case_weights integer (tree t rest))
-
-  before_default : (test : Tree) (body ts : Trees) → default_weight integer ts ≤ default_weight integer (before (ElseIf test body) ts)
-  before_default test body (tree (Else other) rest) = le_refl (default_weight integer rest)
-  before_default test body no_trees = le_refl 0
-  before_default test body (tree t rest) = le_refl (default_weight integer (tree t rest))
 
   mutual
     weight_keeps : (t : Tree) → weight integer t ≤ weight integer (named t)
@@ -107,16 +89,14 @@ module _ (integer : ℕ) where
 
     pub weights_keep : (ts : Trees) → weights integer ts ≤ weights integer (named_all ts)
     weights_keep no_trees = le_refl 0
-    weights_keep (tree t ts) = let h = weight_keeps t in let k = weights_keep ts in let l = before_keeps (named t) (named_all ts) in omega (arith, h, k, l)
+    weights_keep (tree t ts) = let h = weight_keeps t in let k = weights_keep ts in omega (arith, h, k)
 
     cases_keep : (ts : Trees) → case_weights integer ts ≤ case_weights integer (named_all ts)
     cases_keep no_trees = le_refl 0
     cases_keep (tree (Case value body) ts) = let h = weights_keep body in let k = cases_keep ts in omega (arith, h, k)
-    cases_keep (tree (ElseIf test body) ts) = let h = cases_keep ts in let k = before_cases (named test) (named_all body) (named_all ts) in omega (arith, h, k)
     cases_keep (tree t ts) = cases_keep ts
 
     default_keeps : (ts : Trees) → default_weight integer ts ≤ default_weight integer (named_all ts)
     default_keeps no_trees = le_refl 0
     default_keeps (tree (Default body) ts) = weights_keep body
-    default_keeps (tree (ElseIf test body) ts) = let h = default_keeps ts in let k = before_default (named test) (named_all body) (named_all ts) in omega (arith, h, k)
     default_keeps (tree t ts) = default_keeps ts

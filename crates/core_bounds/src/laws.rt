@@ -13,7 +13,7 @@ pub fn loops_keep()
     ensures { (integer : ℕ) (terms : Trees) → weights integer terms ≤ weights integer (without_switches terms) }
 {}
 
-/// So do operators that are named, and Elses that are nested.
+/// So do operators that are named.
 pub fn names_keep()
     ensures { (integer : ℕ) (terms : Trees) → weights integer terms ≤ weights integer (named_all terms) }
 {}

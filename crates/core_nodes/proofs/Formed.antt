@@ -86,7 +86,7 @@ module _ (Forms : Type 0) (Listed : List (FieldItem UnitName) → Type 0) (Symbo
     term_whole (Container' kind at name body) h = formed_whole body h.2
     term_whole (Scope here at name body) h = formed_whole body h.1
     term_whole (If test body) h = (term_whole test h.1, formed_whole body h.2)
-    term_whole (ElseIf test body) h = (term_whole test h.2, formed_whole body h.3)
+    term_whole (ElseIf test body) h = (term_whole test h.1, formed_whole body h.2)
     term_whole (Else body) h = formed_whole body h
     term_whole (While test body) h = (term_whole test h.1, formed_whole body h.2)
     term_whole (For start test step body) h = (effect_whole start (term_whole start) h.1, term_whole test h.3, effect_whole step (term_whole step) h.4, formed_whole body h.5)

@@ -60,7 +60,7 @@ bytes_by d.Buffer (Bytes bytes) = bytes
 bytes_by d.Guid (Bytes bytes) = bytes
 bytes_by form value = []
 
--- how many bytes a line has, where its value is known to be one without a look at labels
+-- how many bytes a line has, where its type or its value tells that without a look at labels
 abbrev pub size_by : Option DataType → List ℕ → Option ℕ
 size_by None value = None
 size_by (Some (d.Number width)) value = Some width
@@ -68,4 +68,4 @@ size_by (Some d.Label) value = Some 0
 size_by (Some d.Text) value = option_map (λ v. length (bytes_by d.Text v)) (plain_value d.Text value)
 size_by (Some d.WideText) value = option_map (λ v. length (bytes_by d.WideText v)) (plain_value d.WideText value)
 size_by (Some d.Buffer) value = option_map (λ v. length (bytes_by d.Buffer v)) (plain_value d.Buffer value)
-size_by (Some d.Guid) value = option_map (λ v. length (bytes_by d.Guid v)) (plain_value d.Guid value)
+size_by (Some d.Guid) value = Some 16

@@ -129,7 +129,7 @@ fn size_of_form(alloc: Global, form: DataType, value: &[u8]) -> Result<Option<u6
         DataType::Text => Ok(length_of(text_bytes(alloc, value)?)),
         DataType::WideText => Ok(length_of(wide_bytes(alloc, value)?)),
         DataType::Buffer => Ok(length_of(buffer_bytes(alloc, value)?)),
-        DataType::Guid => Ok(length_of(guid_bytes(alloc, value)?)),
+        DataType::Guid => Ok(Some(16)),
     }
 }
 

@@ -9,7 +9,7 @@ use Rattle.asl_tree.specs.Tree.{Trees}
 use Rattle.asl_tree.specs.declared.term.NamedDescriptor.{NamedDescriptor}
 use Rattle.asl_meaning.specs.Declarations.{Declarations, is_named, nothing_declared, declarations}
 use Rattle.asl_numbers.specs.Numbers.{numbered_all}
-use Rattle.asl_terms.specs.Plans.{Plans}
+use Rattle.term_plans.specs.Plans.{Plans}
 use Rattle.acpi_names.specs.Errors.{whole_of}
 use Rattle.acpi_names.specs.Mentions.{Mention, after_all, all_errors, all_types, block_mentions}
 use Rattle.acpi_names.specs.Parts.{Agrees}

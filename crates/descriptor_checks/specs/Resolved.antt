@@ -11,7 +11,7 @@ use Rattle.asl_tree.specs.declared.term.NamedDescriptor.{NamedDescriptor}
 use Rattle.asl_meaning.specs.Declarations.{is_named, nothing_declared, declarations as all_declared}
 use Rattle.acpi_names.specs.Mentions.{Mention, Used', Sought, Declares, block_mentions}
 use Rattle.asl_numbers.specs.Numbers.{numbered_all}
-use Rattle.asl_terms.specs.Plans.{Plans}
+use Rattle.term_plans.specs.Plans.{Plans}
 use Rattle.descriptor_fields.specs.Constants.{resolved_from, broken_from}
 use Rattle.descriptor_fields.specs.Declaring.{declaring, stripped}
 use Rattle.descriptor_fields.specs.Nodes.{at_node, named_from}

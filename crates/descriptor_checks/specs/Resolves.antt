@@ -1,7 +1,7 @@
 -- What code knows of the names of a block where descriptors have names.
 use Rattle.std.specs.Prelude.{◌≡◌, map}
 use Rattle.asl_tree.specs.View.{trees_of}
-use Rattle.asl_terms.specs.Plans.{Plans, plans_of}
+use Rattle.term_plans.specs.Plans.{Plans, plans_of}
 use Rattle.name_checks.specs.Messages.{message_of}
 use Rattle.descriptor_fields.specs.Declaring.{declaring}
 use Rattle.descriptor_checks.specs.Fields.{paths_at}

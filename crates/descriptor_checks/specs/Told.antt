@@ -11,7 +11,7 @@ use Rattle.asl_meaning.specs.Declarations.{nothing_declared}
 use Rattle.acpi_names.specs.Errors.{NameError, Missing, NoContainer, whole_of, Asked, Anything, AValue, unless, step_errors}
 use Rattle.acpi_names.specs.Mentions.{Mention, Used', Sought, Called, Declares, Opens, all_errors, all_types}
 use Rattle.asl_numbers.specs.Numbers.{numbered_all}
-use Rattle.asl_terms.specs.Plans.{Plans}
+use Rattle.term_plans.specs.Plans.{Plans}
 use Rattle.name_checks.specs.Messages.{message_of, name_text}
 use Rattle.descriptor_checks.specs.Senses.{Sense, Nothing, AField, outer_path, sense_of}
 use Rattle.descriptor_fields.specs.Declaring.{declaring}

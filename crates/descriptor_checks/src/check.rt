@@ -2,7 +2,7 @@
 ghost use Rattle.std.specs.Prelude.{◌≡◌, true, IfOk};
 ghost use Rattle.asl_tree.specs.View.{trees_of};
 ghost use Rattle.asl_numbers.specs.Numbers.{numbered_all};
-ghost use Rattle.asl_terms.specs.Plans.{Plans, plans_of};
+ghost use Rattle.term_plans.specs.Plans.{Plans, plans_of};
 ghost use Rattle.acpi_names.specs.Tables.{Tabled};
 ghost use Rattle.acpi_names.specs.Terms.{are_terms};
 ghost use Rattle.name_kinds.specs.Known.{KnowsItsTerms};
@@ -93,7 +93,7 @@ pub fn resolved_names(alloc: Global, terms: Vec<Node>) -> Result<Resolved, Alloc
 }
 
 /// What is told of the names of a block whose terms are resolved, where what is known of these is lent: in the class of
-/// names 6040 to 6046, in that of kinds and counts 6050, 6051, 6054, 6056 and 6020. The only error is want of memory.
+/// names 6040 to 6046, in that of kinds and counts 6050, 6051, 6054 and 6056. The only error is want of memory.
 pub fn told_of(alloc: Global, known: &Known<'_>, uses: Uses) -> Result<Told, AllocError>
     ghost ps: { Plans }
     requires plans { plans_of known.now.terms.now ≡ spec.checked_terms ps }

@@ -5,7 +5,7 @@ ghost use Rattle.acpi_state.specs.Objects.{lookup};
 ghost use Rattle.asl_tree.specs.View.{trees_of};
 ghost use Rattle.asl_meaning.specs.Declarations.{declarations, nothing_declared};
 ghost use Rattle.asl_numbers.specs.Numbers.{numbered_all};
-ghost use Rattle.asl_terms.specs.Plans.{plans_of};
+ghost use Rattle.term_plans.specs.Plans.{plans_of};
 ghost use Rattle.acpi_names.specs.Errors.{Whole};
 ghost use Rattle.acpi_names.specs.Mentions.{after_all, block_mentions};
 ghost use Rattle.acpi_names.specs.Parts.{Agrees};

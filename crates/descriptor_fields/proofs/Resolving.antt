@@ -9,11 +9,11 @@ use Rattle.asl_tree.specs.declared.term.Op.{Op}
 use Rattle.asl_tree.specs.declared.term.Node.{Node}
 use Rattle.asl_tree.specs.declared.term.Term.{Term}
 use Rattle.asl_tree.specs.declared.term.Term as D
-use Rattle.asl_terms.specs.Plans.{Plan, a_call, a_form, Plans, plan, plan_of, plans_of, join}
-use Rattle.asl_terms.proofs.Plans.{plan_form, plan_call, no_plans_are, more_plans_are}
-use Rattle.asl_terms.proofs.Joins.{join_assoc}
-use Rattle.asl_terms.proofs.Settled.{join_nothing, join_first, push_is}
-use Rattle.asl_terms.proofs.Terms.{name_term}
+use Rattle.term_plans.specs.Plans.{Plan, a_call, a_form, Plans, plan, plan_of, plans_of, join}
+use Rattle.term_plans.proofs.Plans.{plan_form, plan_call, no_plans_are, more_plans_are}
+use Rattle.term_plans.proofs.Lists.{join_assoc}
+use Rattle.term_plans.proofs.Lists.{join_nothing, join_first, push_is}
+use Rattle.term_plans.proofs.Terms.{name_term}
 use Rattle.asl_numbers.specs.Numbers.{inside, nodes}
 use Rattle.descriptor_fields.specs.Declaring.{alone}
 use Rattle.descriptor_fields.specs.Constants.{resolved_use, broken_use, resolved, resolved_from, broken, broken_from}

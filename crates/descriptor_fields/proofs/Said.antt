@@ -8,8 +8,8 @@ use Rattle.acpi_state.specs.Outcomes.{choose}
 use Rattle.asl_tree.specs.declared.term.Op.{Op}
 use Rattle.asl_tree.specs.declared.term.Declaration.{Declaration}
 use Rattle.asl_tree.specs.declared.term.NamedDescriptor.{NamedDescriptor}
-use Rattle.asl_terms.specs.Plans.{Plan, a_call, a_form, Plans, no_plans, plan, plan_at, join}
-use Rattle.asl_terms.specs.Plans.{named_of}
+use Rattle.term_plans.specs.Plans.{Plan, a_call, a_form, Plans, no_plans, plan, plan_at, join}
+use Rattle.term_plans.specs.Plans.{named_of}
 use Rattle.asl_numbers.specs.Numbers.{inside, nodes}
 use Rattle.descriptor_fields.specs.Declaring.{has_terms, is_naming, declared_by}
 use Rattle.descriptor_fields.specs.Nodes.{at_node, IsPut, SaysAt, SaysMore, named_first, named_in, named_from, own_entry, entries_inside, entries_among}

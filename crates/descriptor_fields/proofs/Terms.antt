@@ -10,11 +10,11 @@ use Rattle.asl_tree.specs.declared.term.Node.{Node}
 use Rattle.asl_tree.specs.declared.term.Term.{Term}
 use Rattle.asl_tree.specs.declared.term.Term as D
 use Rattle.asl_tree.specs.declared.term.Term.TheVariants as V
-use Rattle.asl_terms.specs.Plans.{Plans, no_plans, plan, a_name, a_fill, a_form, plan_of, plans_of, plan_at, join}
-use Rattle.asl_terms.specs.Plans.{named_of}
-use Rattle.asl_terms.proofs.Plans.{plan_form, plan_call, no_plans_are}
-use Rattle.asl_terms.proofs.Terms.{term_rules, fill_term}
-use Rattle.asl_terms.proofs.Settled.{push_is, at_some, at_none}
+use Rattle.term_plans.specs.Plans.{Plans, no_plans, plan, a_name, a_fill, a_form, plan_of, plans_of, plan_at, join}
+use Rattle.term_plans.specs.Plans.{named_of}
+use Rattle.term_plans.proofs.Plans.{plan_form, plan_call, no_plans_are}
+use Rattle.term_plans.proofs.Terms.{term_rules, fill_term}
+use Rattle.term_plans.proofs.Lists.{push_is, at_some, at_none}
 use Rattle.descriptor_fields.specs.Declaring.{has_terms, names_first, is_first, names_descriptor, names_descriptors, names_inside, names_among, alone, segment_path, declaration, opened, declaring, is_naming, declared_by, unless_declared, closed, stripped}
 use Rattle.descriptor_fields.specs.Nodes.{own_entry, entries_inside, entries_among}
 

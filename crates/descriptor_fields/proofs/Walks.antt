@@ -5,10 +5,10 @@ use Rattle.std.proofs.lemmas.List.{drop_all, reverse-append, reverse-reverse}
 use Rattle.iasl_messages.specs.declared.place.Place.{Place}
 use Rattle.asl_tree.specs.declared.term.NamedDescriptor.{NamedDescriptor}
 use Rattle.asl_tree.specs.declared.term.Node.{Node}
-use Rattle.asl_terms.specs.Plans.{Plan, Plans, no_plans, plan, plan_of, plans_of, join}
-use Rattle.asl_terms.proofs.Plans.{no_plans_are, more_plans_are}
-use Rattle.asl_terms.proofs.Joins.{join_assoc}
-use Rattle.asl_terms.proofs.Settled.{join_nothing, join_first, push_is}
+use Rattle.term_plans.specs.Plans.{Plan, Plans, no_plans, plan, plan_of, plans_of, join}
+use Rattle.term_plans.proofs.Plans.{no_plans_are, more_plans_are}
+use Rattle.term_plans.proofs.Lists.{join_assoc}
+use Rattle.term_plans.proofs.Lists.{join_nothing, join_first, push_is}
 use Rattle.asl_numbers.specs.Numbers.{inside, nodes}
 use Rattle.descriptor_fields.specs.Declaring.{names_descriptor, names_descriptors, declarations, declaration, alone}
 use Rattle.descriptor_fields.proofs.Said.{nodes_join}

@@ -5,7 +5,7 @@ use Rattle.iasl_messages.specs.declared.message.Message.{Message}
 use Rattle.asl_tree.specs.declared.path.Path.{Path}
 use Rattle.asl_tree.specs.declared.term.Word.{Word}
 use Rattle.asl_numbers.specs.Numbers.{inside, nodes}
-use Rattle.asl_terms.specs.Plans.{Plan, a_word, a_name, a_call, a_form, Plans, no_plans, plan}
+use Rattle.term_plans.specs.Plans.{Plan, a_word, a_name, a_call, a_form, Plans, no_plans, plan}
 use Rattle.descriptor_fields.specs.Nodes.{at_node}
 use Rattle.descriptor_fields.specs.Values.{Among, Arguments, Contents, OfCall, is_value_in, is_in_bits}
 

@@ -7,8 +7,8 @@ use Rattle.asl_tree.specs.declared.path.Path.{Path}
 use Rattle.asl_tree.specs.declared.term.Op.{Op}
 use Rattle.asl_tree.specs.declared.term.Declaration.{Declaration}
 use Rattle.asl_tree.specs.declared.term.NamedDescriptor.{NamedDescriptor}
-use Rattle.asl_terms.specs.Plans.{Plan, a_fill, a_name, a_call, a_form, Plans, no_plans, plan, plan_at, join}
-use Rattle.asl_terms.specs.Plans.{named_of}
+use Rattle.term_plans.specs.Plans.{Plan, a_fill, a_name, a_call, a_form, Plans, no_plans, plan, plan_at, join}
+use Rattle.term_plans.specs.Plans.{named_of}
 
 -- whether the body of a form is a list of terms
 abbrev pub has_terms : Op → Bool

@@ -4,7 +4,7 @@ use Rattle.std.specs.Prelude.{Some, None}
 use Rattle.acpi_state.specs.Outcomes.{choose}
 use Rattle.asl_tree.specs.declared.term.NamedDescriptor.{NamedDescriptor}
 use Rattle.asl_numbers.specs.Numbers.{inside, nodes}
-use Rattle.asl_terms.specs.Plans.{Plan, a_call, a_form, Plans, no_plans, plan}
+use Rattle.term_plans.specs.Plans.{Plan, a_call, a_form, Plans, no_plans, plan}
 use Rattle.descriptor_fields.specs.Declaring.{has_terms, declared_by}
 
 -- what a list says of the node with a number

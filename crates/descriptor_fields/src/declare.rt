@@ -1,6 +1,6 @@
 //! The names of resource descriptors as terms of their own.
 ghost use Rattle.std.specs.Prelude.{◌≡◌, ◌++◌, OnOk, IfOk};
-ghost use Rattle.asl_terms.specs.Plans.{plan_of, plans_of, join};
+ghost use Rattle.term_plans.specs.Plans.{plan_of, plans_of, join};
 ghost use Rattle.descriptor_fields.specs.Declaring as spec;
 
 use asl_tree::path::{NameSeg, Path, Segs};
@@ -196,7 +196,7 @@ fn open(alloc: Global, term: Term) -> Result<Term, AllocError>
 }
 
 // Adds a term and those that declare its descriptors, which stand behind it where it declares its own name first.
-#[tactic(auto, using(asl_terms::proofs::Joins::join_assoc))]
+#[tactic(auto, using(term_plans::proofs::Lists::join_assoc))]
 fn add_beside(
     alloc: Global,
     out: &mut Vec<Node>,

@@ -1,6 +1,6 @@
 //! The descriptors that terms declare, by the numbers of the nodes that are their names.
 ghost use Rattle.std.specs.Prelude.{◌≡◌, ◌&&◌, ◌++◌, ◌∷◌, [], get_or, None, IfOk, OnOk};
-ghost use Rattle.asl_terms.specs.Plans.{plan_of, plans_of};
+ghost use Rattle.term_plans.specs.Plans.{plan_of, plans_of};
 ghost use Rattle.descriptor_fields.specs.Declaring as declaring;
 ghost use Rattle.descriptor_fields.specs.Nodes as spec;
 ghost use Rattle.descriptor_fields.specs.Nodes.{IsPut, SaysAt, SaysMore};

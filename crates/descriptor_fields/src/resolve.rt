@@ -2,7 +2,7 @@
 ghost use Rattle.std.specs.Prelude.{◌≡◌, ◌+◌, ◌++◌, ◌||◌, ℕ, List, false, suc, IfOk, OnOk};
 ghost use Rattle.acpi_state.specs.Outcomes.{choose};
 ghost use Rattle.asl_numbers.specs.Numbers.{inside, nodes as node_count};
-ghost use Rattle.asl_terms.specs.Plans.{a_name, a_word, plan_of, plans_of};
+ghost use Rattle.term_plans.specs.Plans.{a_name, a_word, plan_of, plans_of};
 ghost use Rattle.asl_tree.specs.declared.path.Path.{Path};
 ghost use Rattle.descriptor_fields.specs.Constants as spec;
 ghost use Rattle.descriptor_fields.specs.Nodes.{SaysAt};

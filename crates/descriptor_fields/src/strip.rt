@@ -1,7 +1,7 @@
 //! Terms without those that declare descriptors.
 ghost use Rattle.std.specs.Prelude.{◌≡◌, OnOk, IfOk};
-ghost use Rattle.asl_terms.specs.Plans.{plan_of, plans_of, plan_at, join};
-ghost use Rattle.asl_terms.specs.Plans as fills;
+ghost use Rattle.term_plans.specs.Plans.{plan_of, plans_of, plan_at, join};
+ghost use Rattle.term_plans.specs.Plans as fills;
 ghost use Rattle.descriptor_fields.specs.Declaring as spec;
 
 use crate::declare::{has_terms, push};
@@ -67,7 +67,7 @@ fn close(alloc: Global, term: Term) -> Result<Term, AllocError>
 
 // Adds a term, unless it declares a descriptor.
 #[cycle(strip)]
-#[tactic(auto, using(crate::proofs::Terms::unless_none, crate::proofs::Terms::unless_some, asl_terms::proofs::Settled::join_nothing))]
+#[tactic(auto, using(crate::proofs::Terms::unless_none, crate::proofs::Terms::unless_some, term_plans::proofs::Lists::join_nothing))]
 fn add_term(alloc: Global, out: &mut Vec<Node>, node: Node) -> Result<(), AllocError>
     ensures { OnOk result (plans_of out.new.items ≡ join (plans_of out.old.items) (spec.kept node.place (plan_of node.term))) }
 {

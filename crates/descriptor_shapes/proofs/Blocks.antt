@@ -31,9 +31,9 @@ use Rattle.acpi_names.proofs.MentionTypes.{block_types}
 use Rattle.acpi_names.specs.Parts.{Agrees}
 use Rattle.acpi_names.specs.Tables.{Tabled}
 use Rattle.asl_numbers.specs.Numbers.{inside, nodes, numbered_all, numbered}
-use Rattle.asl_terms.specs.Plans.{Plan, a_fill, a_name, a_call, a_form, Plans, no_plans, plan, join, plan_at, a_unit}
-use Rattle.asl_terms.specs.Plans.{named_of}
-use Rattle.asl_terms.proofs.Joins.{join_assoc}
+use Rattle.term_plans.specs.Plans.{Plan, a_fill, a_name, a_call, a_form, Plans, no_plans, plan, join, plan_at, a_unit}
+use Rattle.term_plans.specs.Plans.{named_of}
+use Rattle.term_plans.proofs.Lists.{join_assoc}
 use Rattle.name_checks.specs.Messages.{message_of}
 use Rattle.name_checks.proofs.Blocks.{none_wrong}
 use Rattle.descriptor_fields.specs.Declaring.{has_terms, names_inside, names_among, declarations, alone, beside, opened, declaring, declared_by, unless_declared, closed, stripped, is_first, names_descriptor, names_descriptors, declaration, is_naming}

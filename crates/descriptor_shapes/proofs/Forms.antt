@@ -367,7 +367,7 @@ form_like here (Op.Declaration Declaration.CreateDWordField) (MoreFrom source s 
 form_like here (Op.Declaration Declaration.CreateQWordField) (MoreFrom source s (MoreFrom index t (MoreFrom (Use at name) u NoneFrom))) NoneFrom = rw (u.leaf refl) (made _ refl (search) (λ h. (((s.value h.0.0.0, s.term h.0.0.1), ((t.value h.0.1.0.0, t.term h.0.1.0.1), tt)), h.1)), λ files h. ((h.1.0, (h.1.1.0, tt)), h.1.1.1.0), λ more e. absurd cc)
 form_like here (Op.Control Control.Return) (MoreFrom value t NoneFrom) NoneFrom = (made _ refl (search) (λ h. (t.value h.0, t.term h.1)), λ files h. h.1.0, λ more e none h. (Terms tt, rw (none refl) tt))
 form_like here (Op.Control Control.If) (MoreFrom test t NoneFrom) body = (made _ refl (search) (λ h. (t.value h.0, t.term h.1, (lists body).program h.2)), λ files h. (h.1.0, h.2), λ more e none h. (Terms h.2, tt))
-form_like here (Op.Control Control.ElseIf) (MoreFrom test t NoneFrom) body = (made _ refl (search) (λ h. (h.0, t.value h.1, t.term h.2, (lists body).program h.3)), λ files h. (h.1.0, h.2), λ more e none h. (Terms h.3, tt))
+form_like here (Op.Control Control.ElseIf) (MoreFrom test t NoneFrom) body = (made _ refl (search) (λ h. (t.value h.0, t.term h.1, (lists body).program h.2)), λ files h. (h.1.0, h.2), λ more e none h. (Terms h.2, tt))
 form_like here (Op.Control Control.Else) NoneFrom body = (made _ refl (search) (λ h. (lists body).program h), λ files h. h.2, λ more e none h. (Terms h, tt))
 form_like here (Op.Control Control.While) (MoreFrom test t NoneFrom) body = (made _ refl (search) (λ h. (t.value h.0, t.term h.1, (lists body).program h.2)), λ files h. (h.1.0, h.2), λ more e none h. (Terms h.2, tt))
 form_like here (Op.Control Control.For) (MoreFrom start s (MoreFrom test t (MoreFrom step u NoneFrom))) body = (made _ refl (search) (λ h. (h.0, effect start s h.1, t.value h.2, t.term h.3, effect step u h.4, (lists body).program h.5)), λ files h. (h.1.0, h.1.1.0, h.1.1.1.0, h.2), λ more e none h. (Terms h.5, tt))

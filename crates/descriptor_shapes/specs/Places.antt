@@ -2,8 +2,8 @@
 use Rattle.std.specs.Prelude.{ℕ, List}
 use Rattle.std.specs.List.{AllByRecursion}
 use Rattle.asl_tree.specs.declared.term.NamedDescriptor.{NamedDescriptor}
-use Rattle.asl_terms.specs.Plans.{Plan, a_fill, a_call, a_form, Plans, no_plans, plan}
-use Rattle.asl_syntax.specs.Within.{IsIn}
+use Rattle.term_plans.specs.Plans.{Plan, a_fill, a_call, a_form, Plans, no_plans, plan}
+use Rattle.term_plans.specs.Places.{IsIn}
 
 -- the names of descriptors stand in some of so many files
 abbrev pub NamesWithin : ℕ → List NamedDescriptor → Type 0

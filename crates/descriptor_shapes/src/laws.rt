@@ -11,7 +11,7 @@ ghost use Rattle.acpi_names.specs.Parts.{Agrees};
 ghost use Rattle.acpi_names.specs.Tables.{Tabled};
 ghost use Rattle.acpi_names.specs.Terms.{are_terms};
 ghost use Rattle.asl_numbers.specs.Numbers.{numbered_all};
-ghost use Rattle.asl_terms.specs.Plans.{Plans};
+ghost use Rattle.term_plans.specs.Plans.{Plans};
 ghost use Rattle.name_checks.specs.Messages.{message_of};
 ghost use Rattle.named_sessions.specs.Shaped.{AreNamed, AreFormed};
 ghost use Rattle.descriptor_fields.specs.Declaring.{declaring, names_descriptors};

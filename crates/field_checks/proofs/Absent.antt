@@ -4,7 +4,7 @@ use Rattle.std.specs.Prelude.{◌||◌}
 use Rattle.std.proofs.lemmas.Bool.{or_parts}
 use Rattle.asl_tree.specs.declared.term.Declaration.TheVariants as Declaration
 use Rattle.asl_tree.specs.declared.term.Op.{Op}
-use Rattle.asl_terms.specs.Plans.{Plan, a_form, Plans, no_plans, plan}
+use Rattle.term_plans.specs.Plans.{Plan, a_form, Plans, no_plans, plan}
 use Rattle.form_presence.specs.Present.{is_field, has_op, have_op}
 use Rattle.field_checks.specs.Lists.{field_errors, term_errors, all_errors}
 

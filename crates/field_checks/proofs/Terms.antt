@@ -10,8 +10,8 @@ use Rattle.asl_tree.specs.declared.term.Node.{Node}
 use Rattle.asl_tree.specs.declared.term.Term.{Term}
 use Rattle.asl_tree.specs.declared.term.Term as D
 use Rattle.asl_tree.specs.declared.term.Term.TheVariants as V
-use Rattle.asl_terms.specs.Plans.{a_form, plan_of, plans_of}
-use Rattle.asl_terms.proofs.Plans.{plan_form, plan_call}
+use Rattle.term_plans.specs.Plans.{a_form, plan_of, plans_of}
+use Rattle.term_plans.proofs.Plans.{plan_form, plan_call}
 use Rattle.asl_numbers.specs.Numbers.{inside, nodes}
 use Rattle.field_checks.specs.Lists.{item_in, field_errors, term_errors, all_errors}
 

@@ -5,8 +5,8 @@ use Rattle.asl_tree.specs.declared.path.Path.{Path}
 use Rattle.asl_tree.specs.declared.term.Op.{Op}
 use Rattle.asl_tree.specs.declared.term.Node.{Node}
 use Rattle.asl_tree.specs.declared.term.Term as D
-use Rattle.asl_terms.specs.Plans.{plan_of, plans_of}
-use Rattle.asl_terms.proofs.Plans.{plan_form, plan_call}
+use Rattle.term_plans.specs.Plans.{plan_of, plans_of}
+use Rattle.term_plans.proofs.Plans.{plan_form, plan_call}
 use Rattle.field_layout.specs.declared.segments.SerialItem.{SerialItem}
 use Rattle.field_layout.specs.declared.segments.SerialItem.TheVariants as Item
 use Rattle.field_layout.specs.declared.segments.Said.{Said}

@@ -4,8 +4,8 @@ use Rattle.iasl_messages.specs.declared.message.Message.{Message}
 use Rattle.acpi_state.specs.Outcomes.{choose}
 use Rattle.asl_tree.specs.FieldItems.{FieldItem, behind_item}
 use Rattle.asl_tree.specs.declared.term.Node.{Node}
-use Rattle.asl_terms.specs.Plans.{no_plans, plan, plan_of, plans_of}
-use Rattle.asl_terms.specs.Terms.{fault_at}
+use Rattle.term_plans.specs.Plans.{no_plans, plan, plan_of, plans_of}
+use Rattle.term_plans.specs.Places.{fault_at}
 use Rattle.field_layout.specs.Layout.{item_fault}
 use Rattle.field_checks.specs.Lists.{item_in, list_errors, term_errors, all_errors}
 

@@ -6,8 +6,8 @@ use Rattle.iasl_messages.specs.declared.message.Message.{Message}
 use Rattle.asl_tree.specs.FieldItems.{FieldItem, UnitItem, SkipItem, OffsetItem, behind_item}
 use Rattle.asl_tree.specs.declared.term.Op.{Op}
 use Rattle.asl_tree.specs.declared.term.Declaration.{Declaration}
-use Rattle.asl_terms.specs.Plans.{Plan, a_unit, a_skip, an_offset, an_access, a_name, a_fill, a_form, Plans, no_plans, plan}
-use Rattle.asl_terms.specs.Terms.{fault_at}
+use Rattle.term_plans.specs.Plans.{Plan, a_unit, a_skip, an_offset, an_access, a_name, a_fill, a_form, Plans, no_plans, plan}
+use Rattle.term_plans.specs.Places.{fault_at}
 use Rattle.field_layout.specs.Layout.{item_fault}
 use Rattle.field_checks.specs.Units.{unit_told, index_fault}
 

@@ -2,8 +2,8 @@
 use Rattle.std.specs.Prelude.{ℕ, ◌%◌, List, [], ◌∷◌, Option, Some, None}
 use Rattle.acpi_state.specs.Outcomes.{choose}
 use Rattle.iasl_messages.specs.declared.message.Message.{Message}
-use Rattle.asl_terms.specs.Plans.{Plan, a_unit, a_skip, an_offset, an_access, a_name, a_fill, Plans, no_plans, plan, plan_at, number_of}
-use Rattle.asl_terms.specs.Terms.{fault_at}
+use Rattle.term_plans.specs.Plans.{Plan, a_unit, a_skip, an_offset, an_access, a_name, a_fill, Plans, no_plans, plan, plan_at, number_of}
+use Rattle.term_plans.specs.Places.{fault_at}
 use Rattle.field_layout.specs.declared.segments.SerialItem.{SerialItem}
 use Rattle.field_layout.specs.declared.segments.SerialItem.TheVariants as Item
 use Rattle.field_layout.specs.declared.segments.Said.{Said}

@@ -1,7 +1,7 @@
 //! The lists of fields, checked.
 ghost use Rattle.std.specs.Prelude.{◌≡◌, ◌++◌, ◌<◌, ◌^◌, ◌↔◌, IsTrue, IfOk, OnOk};
 ghost use Rattle.std.specs.Option.{option_map};
-ghost use Rattle.asl_terms.specs.Plans.{plan_of, plans_of};
+ghost use Rattle.term_plans.specs.Plans.{plan_of, plans_of};
 ghost use Rattle.field_checks.specs.Lists as spec;
 ghost use Rattle.field_checks.specs.Units.{unit_told, index_fault};
 ghost use Rattle.field_layout.specs.Layout.{item_of};
@@ -17,7 +17,7 @@ use std::alloc::{AllocError, Global};
 const MOST_BITS: u64 = 0x3FFF_FFFF_FFFF_FFFF;
 
 // The item of a list that a term is; one without bits counts as a gap of none.
-#[tactic(auto, using(asl_terms::proofs::Terms::term_rules, crate::proofs::Terms::no_item))]
+#[tactic(auto, using(term_plans::proofs::Terms::term_rules, crate::proofs::Terms::no_item))]
 fn item_in(term: &Term) -> Option<FieldItem>
     ensures { option_map item_of result ≡ spec.item_in (plan_of term.now) }
 {

@@ -1,6 +1,6 @@
 //! How the units of a field are accessed, and what they are connected to, by the space of its region.
 ghost use Rattle.std.specs.Prelude.{◌≡◌, ◌++◌, ◌%◌, OnOk};
-ghost use Rattle.asl_terms.specs.Plans.{plan_of, plans_of, plan_at, number_of};
+ghost use Rattle.term_plans.specs.Plans.{plan_of, plans_of, plan_at, number_of};
 ghost use Rattle.field_checks.specs.Units as spec;
 ghost use Rattle.field_layout.specs.Segments.{first_said as said_first};
 
@@ -19,7 +19,7 @@ pub struct UnitFault {
 }
 
 // The number of an argument; 0 where it is none.
-#[tactic(auto, unfolding(asl_terms::specs::Plans::plan_of))]
+#[tactic(auto, unfolding(term_plans::specs::Plans::plan_of))]
 fn number_in(term: &Term) -> u64
     ensures { result ≡ number_of (plan_of term.now) }
 {
@@ -29,7 +29,7 @@ fn number_in(term: &Term) -> u64
     }
 }
 
-#[tactic(auto, using(asl_terms::proofs::Settled::at_rules))]
+#[tactic(auto, using(term_plans::proofs::Lists::at_rules))]
 fn number_at(args: &[Node], place: usize) -> u64
     ensures { result ≡ number_of (plan_at (plans_of args.now) place) }
 {
@@ -47,7 +47,7 @@ pub fn access_at(args: &[Node], place: usize) -> u8
 }
 
 // The item of a list that a term is; what is none counts as a gap of no bits.
-#[tactic(auto, unfolding(asl_terms::specs::Plans::plan_of), using(crate::proofs::UnitFaults::item_rules))]
+#[tactic(auto, unfolding(term_plans::specs::Plans::plan_of), using(crate::proofs::UnitFaults::item_rules))]
 fn serial_item(term: &Term) -> SerialItem
     ensures { result ≡ spec.serial_item (plan_of term.now) }
 {

@@ -1,5 +1,5 @@
 -- How the units of a field's list are accessed and what they are connected to, and the faults of this (ACPI Specification 6.4,
--- 5.5.2.4.6, 19.6.3 and 19.6.16).
+-- 5.5.2.4.6, 19.6.1 and 19.6.15).
 use Rattle.std.specs.Prelude.{◌≡◌, ℕ, suc, nat_eq, ◌||◌, ◌&&◌, Bool, true, false, if◌then◌else◌, List, [], ◌∷◌, ◌++◌, Option, Some, None}
 use Rattle.acpi_state.specs.Outcomes.{choose}
 pub use Rattle.acpi_state.specs.Access.{is_buffer_space}

@@ -40,7 +40,7 @@ module _ (integer : ℕ) where
           )
       copies (tree (Print place format args) ts) h near steps weight least = omega (arith, print_weighs steps (formed place) format (formed_args args) (formed_all ts), copies ts h.2 near.1 steps weight least)
       copies (tree (If test body) ts) h near steps weight least = omega (arith, copies body h.0.2 near.0 steps weight least, copies ts h.2 near.1 steps weight least)
-      copies (tree (ElseIf test body) ts) h near steps weight least = omega (arith, copies body h.0.3 near.0 steps weight least, copies ts h.2 near.1 steps weight least)
+      copies (tree (ElseIf test body) ts) h near steps weight least = omega (arith, copies body h.0.2 near.0 steps weight least, copies ts h.2 near.1 steps weight least)
       copies (tree (Else body) ts) h near steps weight least = omega (arith, copies body h.0 near.0 steps weight least, copies ts h.2 near.1 steps weight least)
       copies (tree (While test body) ts) h near steps weight least =
           omega (arith, copies body h.0.2 near.0 no_trees 0 (omega arith), unstepped_weighs integer (formed_all body), copies ts h.2 near.1 steps weight least)

@@ -6,8 +6,8 @@ use Rattle.asl_tree.specs.declared.term.Node.{Node}
 use Rattle.asl_tree.specs.declared.term.Term.{Term}
 use Rattle.asl_tree.specs.declared.term.Term as D
 use Rattle.asl_tree.specs.declared.term.Term.TheVariants as V
-use Rattle.asl_terms.specs.Plans.{a_call, a_form, plan_of, plans_of}
-use Rattle.asl_terms.proofs.Plans.{plan_form, plan_call}
+use Rattle.term_plans.specs.Plans.{a_call, a_form, plan_of, plans_of}
+use Rattle.term_plans.proofs.Plans.{plan_form, plan_call}
 use Rattle.asl_tree.specs.declared.term.NamedDescriptor.{NamedDescriptor}
 use Rattle.descriptor_fields.proofs.Terms.{one_other}
 use Rattle.form_presence.specs.Present.{has_op, is_switch, is_field, is_list, is_form}

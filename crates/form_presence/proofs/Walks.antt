@@ -6,7 +6,7 @@ use Rattle.asl_tree.specs.declared.term.Node.{Node}
 use Rattle.asl_tree.specs.declared.path.Path.{Path}
 use Rattle.asl_tree.specs.declared.term.NamedDescriptor.{NamedDescriptor}
 use Rattle.iasl_messages.specs.declared.place.Place.{Place}
-use Rattle.asl_terms.specs.Plans.{Plan, a_fill, a_call, a_form, Plans, no_plans, plan, plan_of, plans_of}
+use Rattle.term_plans.specs.Plans.{Plan, a_fill, a_call, a_form, Plans, no_plans, plan, plan_of, plans_of}
 use Rattle.asl_numbers.specs.Numbers.{inside, nodes}
 use Rattle.form_presence.specs.declared.present.Presence.{Presence}
 use Rattle.form_presence.specs.Kinds.{FormKind, ASwitch, AField, AList, ForOrPrint, ADescriptor, is_of, is_in, are_in, is_seen}

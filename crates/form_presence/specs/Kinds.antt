@@ -1,7 +1,7 @@
 -- The kinds of what one walk looks for, together.
 use Rattle.std.specs.Prelude.{Bool, false}
 use Rattle.asl_tree.specs.declared.term.Op.{Op}
-use Rattle.asl_terms.specs.Plans.{Plan, Plans}
+use Rattle.term_plans.specs.Plans.{Plan, Plans}
 use Rattle.descriptor_fields.specs.Declaring.{names_descriptor, names_descriptors}
 use Rattle.form_presence.specs.declared.present.Presence.{Presence}
 use Rattle.form_presence.specs.Present.{is_switch, is_field, is_list, is_form, has_op, have_op}

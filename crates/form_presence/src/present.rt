@@ -1,6 +1,6 @@
 //! Which forms stand in terms, found in one walk.
 ghost use Rattle.std.specs.Prelude.{◌≡◌, ◌+◌, ◌-◌, ◌^◌, ◌||◌, ℕ, List, min};
-ghost use Rattle.asl_terms.specs.Plans.{a_fill, a_form, plans_of};
+ghost use Rattle.term_plans.specs.Plans.{a_fill, a_form, plans_of};
 ghost use Rattle.asl_numbers.specs.Numbers.{inside, nodes as node_count};
 ghost use Rattle.descriptor_fields.specs.Declaring.{names_descriptors};
 ghost use Rattle.form_presence.specs.Present.{have_op, is_switch, is_field, is_list, is_form};

@@ -194,7 +194,7 @@ module _ (Forms : Type 0) (Listed : List (FieldItem UnitName) → Type 0) (Symbo
     term_asked (Container' kind at name body) h scope d = (tt, all_asked body h.2 (declared_path name scope) (with_declared (declared_path name scope) (As (ContainerObject kind)) d))
     term_asked (Scope here at name body) h scope d = (tt, all_asked body h.1 (scope_path d name scope) d)
     term_asked (If test body) h scope d = asked_both (mentions true test scope) (block_mentions body scope d) (value_asked test h.0 h.1 scope) (all_asked body h.2 scope d)
-    term_asked (ElseIf test body) h scope d = asked_both (mentions true test scope) (block_mentions body scope d) (value_asked test h.1 h.2 scope) (all_asked body h.3 scope d)
+    term_asked (ElseIf test body) h scope d = asked_both (mentions true test scope) (block_mentions body scope d) (value_asked test h.0 h.1 scope) (all_asked body h.2 scope d)
     term_asked (Else body) h scope d = all_asked body h scope d
     term_asked (While test body) h scope d = asked_both (mentions true test scope) (block_mentions body scope d) (value_asked test h.0 h.1 scope) (all_asked body h.2 scope d)
     term_asked (For start test step body) h scope d =

@@ -161,7 +161,7 @@ module _ (Listed : List (FieldItem UnitName) → Type 0) (Symbols Switches : Typ
     mutual
       step_made : (t : Tree) → Made t → Made (stepped steps t)
       step_made (If test body) h = (h.0, h.1, steps_made body h.2)
-      step_made (ElseIf test body) h = (h.0, h.1, h.2, steps_made body h.3)
+      step_made (ElseIf test body) h = (h.0, h.1, steps_made body h.2)
       step_made (Else body) h = steps_made body h
       step_made (Switch value cases) h = (h.0, h.1, h.2, case_steps_made cases h.3)
       step_made (Case value body) h = absurd h
@@ -262,7 +262,7 @@ module _ (Listed : List (FieldItem UnitName) → Type 0) (Symbols Switches : Typ
     term_made (If test body) other h e n =
         let v = value_made test (first_true (is_value test) (are_terms body) e) (h.0, h.1) in (v.0, v.1, all_made body h.2 (second_true (is_value test) (are_terms body) e) n)
     term_made (ElseIf test body) other h e n =
-        let v = value_made test (first_true (is_value test) (are_terms body) e) (h.1, h.2) in (h.0, v.0, v.1, all_made body h.3 (second_true (is_value test) (are_terms body) e) n)
+        let v = value_made test (first_true (is_value test) (are_terms body) e) (h.0, h.1) in (v.0, v.1, all_made body h.2 (second_true (is_value test) (are_terms body) e) n)
     term_made (Else body) other h e n = all_made body h e n
     term_made (While test body) other h e n =
         let v = value_made test (first_true (is_value test) (are_terms body) e) (h.0, h.1) in (v.0, v.1, all_made body h.2 (second_true (is_value test) (are_terms body) e) n)

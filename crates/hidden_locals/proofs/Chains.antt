@@ -1,5 +1,5 @@
 -- The chain of a Switch's Cases, and its Default.
-use Rattle.std.proofs.Common.{◌≡◌, ℕ, Bool, true, false, Option, Some, None, refl, ap, ◌∙◌, subst}
+use Rattle.std.proofs.Common.{◌≡◌, ℕ, Bool, true, false, refl, ap, ◌∙◌, subst}
 use Rattle.std.proofs.Math.Path.{fun_ext}
 use Rattle.std.specs.Prelude.{if◌then◌else◌, List}
 use Rattle.acpi_values.specs.declared.width.Width.{Width}
@@ -10,17 +10,34 @@ use Rattle.acpi_state.specs.Outcomes.{Flow, Normal, Gives, NoValue, Break, Conti
 use Rattle.acpi_state.specs.Acts.{number_of}
 use Rattle.acpi_state.specs.Loops.{is_true}
 use Rattle.asl_tree.specs.Names.{Known}
-use Rattle.asl_tree.specs.Tree.{Tree, If, Trees, no_trees, tree}
+use Rattle.asl_tree.specs.Tree.{Tree, If, ElseIf, Else, Case, Default, Trees, no_trees, tree}
 use Rattle.asl_meaning.specs.Meaning as S
 use Rattle.hidden_locals.specs.Worlds.{World}
 use Rattle.hidden_locals.specs.Runs.{Veiled, left}
 use Rattle.hidden_locals.specs.Steps.{Taken, EndsAt, Goes}
 use Rattle.hidden_locals.specs.Crossing.{FlagIs, cross, NoContinue, Lasts, Lasting, AfterTerm, Crossed}
-use Rattle.hidden_locals.specs.Turns.{else_of}
-use Rattle.hidden_locals.specs.Switches.{chain_of}
+use Rattle.hidden_locals.specs.Turns.{Plan}
+use Rattle.hidden_locals.specs.Switches.{opened, links, default_link}
 use Rattle.hidden_locals.proofs.Steps.{goes_then, goes_so, goes_to, goes_done}
 use Rattle.hidden_locals.proofs.Turns.{assoc_at}
 use Rattle.hidden_locals.proofs.Tests.{truth_flow, truth_is, Tests}
+
+-- ElseIfs, and an Else behind them or none
+abbrev pub AreBranches : Trees → Type 0
+AreBranches no_trees = Unit {0}
+AreBranches (tree (ElseIf test body) rest) = AreBranches rest
+AreBranches (tree (Else body) no_trees) = Unit {0}
+AreBranches terms = ⊥
+
+pub links_are_branches : (plan : Plan) (level : ℕ) (cases default : Trees) → AreBranches default → AreBranches (links plan level cases default)
+links_are_branches plan level no_trees default h = h
+links_are_branches plan level (tree (Case value body) rest) default h = links_are_branches plan level rest default h
+links_are_branches plan level (tree t rest) default h = links_are_branches plan level rest default h
+
+pub default_is_branch : (plan : Plan) (level : ℕ) (cases : Trees) → AreBranches (default_link plan level cases)
+default_is_branch plan level no_trees = tt
+default_is_branch plan level (tree (Default body) rest) = tt
+default_is_branch plan level (tree t rest) = default_is_branch plan level rest
 
 module _ (width : Width) (known : Known) (turns : ℕ) (call : AbsolutePath → List Value → Run Trees Flow) where
   abbrev R : Tree → AbsolutePath → Bool → Run Trees Flow
@@ -61,14 +78,20 @@ module _ (width : Width) (known : Known) (turns : ℕ) (call : AbsolutePath → 
   case_tested : (b : Bool) (body rest : Trees) (scope : AbsolutePath) (s : State Trees) → after_test body rest scope (truth_flow width b) s ≡ then_run (if b then L body scope false else done (Normal true)) (λ f. on_flow f (L rest scope)) s
   case_tested b body rest scope s = ap (λ c. then_run (if c then L body scope false else done (Normal true)) (λ f. on_flow f (L rest scope)) s) (truth_is width b)
 
-  -- the Else behind a Case
-  else_passed : (rest : Option Trees) (scope : AbsolutePath) → L (else_of rest) scope false ≡ done (Normal false)
-  else_passed None scope = refl
-  else_passed (Some terms) scope = refl
+  -- the branches behind a Case, where it ran and where it did not
+  branches_passed : (rest : Trees) → AreBranches rest → (scope : AbsolutePath) → L rest scope false ≡ done (Normal false)
+  branches_passed no_trees h scope = refl
+  branches_passed (tree (ElseIf test body) rest) h scope = branches_passed rest h scope
+  branches_passed (tree (Else body) no_trees) h scope = refl
+  branches_passed (tree (Else body) (tree t ts)) h scope = absurd h
+  branches_passed (tree t ts) h scope = absurd h
 
-  else_runs : (rest : Option Trees) (scope : AbsolutePath) (s : State Trees) → L (else_of rest) scope true s ≡ L (chain_of rest) scope false s
-  else_runs None scope s = refl
-  else_runs (Some terms) scope s = list_ends terms scope false (L no_trees scope) refl s
+  branches_run : (rest : Trees) → AreBranches rest → (scope : AbsolutePath) (s : State Trees) → L rest scope true s ≡ L (opened rest) scope false s
+  branches_run no_trees h scope s = refl
+  branches_run (tree (ElseIf test body) rest) h scope s = refl
+  branches_run (tree (Else body) no_trees) h scope s = list_ends body scope false (L no_trees scope) refl s
+  branches_run (tree (Else body) (tree t ts)) h scope s = absurd h
+  branches_run (tree t ts) h scope s = absurd h
 
 module _ (convert : Trees → Trees) (IsKept : Trees → Type 0) where
   -- what a run that never ends with a Continue goes to
@@ -84,17 +107,17 @@ module _ (convert : Trees → Trees) (IsKept : Trees → Type 0) where
     Chained m m' = Goes convert IsKept (λ t. Taken w i k (FlagIs low) t v) (AfterTerm convert IsKept w k true low) (cross true) m m'
 
     -- a Case that is tested, and those behind it
-    pub chained_case : (hits : Run Trees Bool) (others : Run Trees Flow) (test : Tree) (body body' : Trees) (rest : Option Trees) (scope : AbsolutePath) →
-        Tests convert IsKept w i k (FlagIs low) v width known turns call call' hits (S.run width known turns call' test scope false) → Crossed convert IsKept w k true low (S.run_all width known turns call body scope false) (S.run_all width known turns call' body' scope false) → Chained others (S.run_all width known turns call' (chain_of rest) scope false) →
-        Chained (then_run hits (λ hit. if hit then S.run_all width known turns call body scope false else others)) (S.run_all width known turns call' (tree (If test body') (else_of rest)) scope false)
-    chained_case hits others test body body' rest scope ht hb ho =
-        goes_to convert IsKept (fun_ext (λ s. case_runs width known turns call' test body' (else_of rest) scope false s))
-        (goes_then convert IsKept (AfterTerm convert IsKept w k true low) (cross true) (after_test width known turns call' body' (else_of rest) scope) ht
-        (λ hit. goes_to convert IsKept (fun_ext (λ s. case_tested width known turns call' hit body' (else_of rest) scope s)) (by_hit hit)))
+    pub chained_case : (hits : Run Trees Bool) (others : Run Trees Flow) (test : Tree) (body body' : Trees) (rest : Trees) → AreBranches rest → (scope : AbsolutePath) →
+        Tests convert IsKept w i k (FlagIs low) v width known turns call call' hits (S.run width known turns call' test scope false) → Crossed convert IsKept w k true low (S.run_all width known turns call body scope false) (S.run_all width known turns call' body' scope false) → Chained others (S.run_all width known turns call' (opened rest) scope false) →
+        Chained (then_run hits (λ hit. if hit then S.run_all width known turns call body scope false else others)) (S.run_all width known turns call' (tree (If test body') rest) scope false)
+    chained_case hits others test body body' rest h scope ht hb ho =
+        goes_to convert IsKept (fun_ext (λ s. case_runs width known turns call' test body' rest scope false s))
+        (goes_then convert IsKept (AfterTerm convert IsKept w k true low) (cross true) (after_test width known turns call' body' rest scope) ht
+        (λ hit. goes_to convert IsKept (fun_ext (λ s. case_tested width known turns call' hit body' rest scope s)) (by_hit hit)))
       where
-        by_hit : (hit : Bool) → Chained (if hit then S.run_all width known turns call body scope false else others) (then_run (if hit then S.run_all width known turns call' body' scope false else done (Normal true)) (λ f. on_flow f (S.run_all width known turns call' (else_of rest) scope)))
-        by_hit true = goes_to convert IsKept (fun_ext (λ s. list_ends width known turns call' body' scope false (S.run_all width known turns call' (else_of rest) scope) (else_passed width known turns call' rest scope) s)) (goes_so convert IsKept (λ j taken. taken.other) (λ t f p. p) hb)
-        by_hit false = goes_to convert IsKept (fun_ext (λ s. else_runs width known turns call' rest scope s)) ho
+        by_hit : (hit : Bool) → Chained (if hit then S.run_all width known turns call body scope false else others) (then_run (if hit then S.run_all width known turns call' body' scope false else done (Normal true)) (λ f. on_flow f (S.run_all width known turns call' rest scope)))
+        by_hit true = goes_to convert IsKept (fun_ext (λ s. list_ends width known turns call' body' scope false (S.run_all width known turns call' rest scope) (branches_passed width known turns call' rest h scope) s)) (goes_so convert IsKept (λ j taken. taken.other) (λ t f p. p) hb)
+        by_hit false = goes_to convert IsKept (fun_ext (λ s. branches_run width known turns call' rest h scope s)) ho
 
     -- nothing is left to do
     pub chained_end : Chained (done (Normal false)) (done (Normal false))

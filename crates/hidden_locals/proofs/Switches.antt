@@ -2,7 +2,7 @@
 use Rattle.std.proofs.Common.{◌≡◌, ℕ, suc, ◌+◌, ◌<◌, ◌≤◌, max, Bool, true, false, List, refl, ap, subst, arith}
 use Rattle.std.proofs.Math.Nat.{le-max_left, le-max_right}
 use Rattle.std.proofs.Math.Path.{fun_ext}
-use Rattle.std.specs.Prelude.{nat_eq, ◌&&◌, ◌||◌, Option}
+use Rattle.std.specs.Prelude.{nat_eq, ◌&&◌, ◌||◌}
 use Rattle.acpi_values.specs.declared.width.Width.{Width}
 use Rattle.acpi_values.specs.Paths.{AbsolutePath}
 use Rattle.acpi_values.specs.Values.{Value, Data, Integer}
@@ -21,7 +21,7 @@ use Rattle.hidden_locals.specs.Locals.{locals, locals_all}
 use Rattle.hidden_locals.specs.Programs.{CallAlike}
 use Rattle.hidden_locals.specs.Turns.{Plan, nth, local, value_local, stored, zero_word, one_word, loop_of, loop_terms, continue_terms}
 use Rattle.hidden_locals.specs.Crossing.{FlagIs, past_break, Lasting, has_continue, have_continue, value_at, until_break, Crossed, Looped}
-use Rattle.hidden_locals.specs.Switches.{depth, depth_all, is_crossed, are_crossed, case_test, chain_of, unswitched, unswitched_all, links, default_link, without_switches, HasNoMethod, StartsNoElse, IsStatement, AreStatements, AreCases, IsUnswitchable}
+use Rattle.hidden_locals.specs.Switches.{depth, depth_all, is_crossed, are_crossed, case_test, opened, unswitched, unswitched_all, links, default_link, without_switches, HasNoMethod, StartsNoElse, IsStatement, AreStatements, AreCases, IsUnswitchable}
 use Rattle.hidden_locals.proofs.Worlds.{same_world}
 use Rattle.hidden_locals.proofs.Runs.{Any, from_then}
 use Rattle.hidden_locals.proofs.Calls.{from_create, from_keep}
@@ -36,7 +36,7 @@ use Rattle.hidden_locals.proofs.Steps.{goes_so}
 use Rattle.hidden_locals.proofs.Crossing as X
 use Rattle.hidden_locals.proofs.Flags.{crossed_continue, crossed_inner, crossed_outer, looped_value, uncrossed_value}
 use Rattle.hidden_locals.proofs.Tests.{ValueSame, AllSame, CaseSame, tests_case, goes_as}
-use Rattle.hidden_locals.proofs.Chains.{Chained, goes_lasting, chained_case, chained_end}
+use Rattle.hidden_locals.proofs.Chains.{Chained, AreBranches, links_are_branches, default_is_branch, goes_lasting, chained_case, chained_end}
 
 -- the Local of a level is small, hidden, and not the flag
 pub record LevelFree (w : World) (plan : Plan) (k : ℕ) (level : ℕ) : Type 0 where
@@ -131,7 +131,7 @@ module _ (width : Width) (known : Known) (turns : ℕ) (call : AbsolutePath → 
   due_free no_trees h level inside scope = refl
   due_free (tree (Else body) ts) h level inside scope = absurd h
   due_free (tree (ElseIf test body) ts) h level inside scope = absurd h
-  due_free (tree (Switch value cases) ts) h level inside scope = loop_free (have_continue cases) inside value (value_local plan level) (chain_of (links plan level cases (default_link plan level cases))) (unswitched_all plan level inside ts) scope
+  due_free (tree (Switch value cases) ts) h level inside scope = loop_free (have_continue cases) inside value (value_local plan level) (opened (links plan level cases (default_link plan level cases))) (unswitched_all plan level inside ts) scope
   due_free (tree Continue ts) h level inside scope = continue_free inside (unswitched_all plan level inside ts) scope
   due_free (tree t ts) h level inside scope = refl
 
@@ -187,7 +187,7 @@ module _ (w : World) (shown : ℕ → Bool) (shows : AreShown shown w) (begun : 
   -- a Switch, and the statements behind it
   module _ (value : Tree) (cases rest : Trees) (level : ℕ) (scope : AbsolutePath) (due : Bool) (hv : HasNoMethod value) (sv : Shows shown (locals value)) (lt : level < plan.levels) where
     abbrev chain : Trees
-    chain = chain_of (links plan level cases (default_link plan level cases))
+    chain = opened (links plan level cases (default_link plan level cases))
 
     abbrev taken : ℕ
     taken = nth plan.free level
@@ -283,22 +283,22 @@ module _ (w : World) (shown : ℕ → Bool) (shows : AreShown shown w) (begun : 
     term (Default body) o h s level fits inside low may scope due = absurd h
     term t o h s level fits inside low may scope due = leaf t refl h s inside low scope due
 
-    chains : (cases : Trees) → AreCases cases → Shows shown (locals_all cases) → (level : ℕ) → suc level + depth_all cases ≤ plan.levels → (low : Bool) → May true low (have_continue cases) (are_crossed cases) → (v : Value) (scope : AbsolutePath) (otherwise : Run Trees Flow) (default : Option Trees) → Chain (nth plan.free level) low v otherwise (A' (chain_of default) scope false) →
-        Chain (nth plan.free level) low v (S.run_cases width known (suc n) call cases v scope otherwise) (A' (chain_of (links plan level cases default)) scope false)
-    chains no_trees h s level fits low may v scope otherwise default o = o
-    chains (tree (Case value body) cases) h s level fits low may v scope otherwise default o =
+    chains : (cases : Trees) → AreCases cases → Shows shown (locals_all cases) → (level : ℕ) → suc level + depth_all cases ≤ plan.levels → (low : Bool) → May true low (have_continue cases) (are_crossed cases) → (v : Value) (scope : AbsolutePath) (otherwise : Run Trees Flow) (default : Trees) → AreBranches default → Chain (nth plan.free level) low v otherwise (A' (opened default) scope false) →
+        Chain (nth plan.free level) low v (S.run_cases width known (suc n) call cases v scope otherwise) (A' (opened (links plan level cases default)) scope false)
+    chains no_trees h s level fits low may v scope otherwise default b o = o
+    chains (tree (Case value body) cases) h s level fits low may v scope otherwise default b o =
         let own = shows_left shown (locals (Case value body)) (locals_all cases) s in
         chained_case without_switches IsUnswitchable w (nth plan.free level) k low v width known (suc n) call call' (S.hits width known (suc n) call value (S.equals width known v (value_at width known (suc n) call value scope)) v scope) (S.run_cases width known (suc n) call cases v scope otherwise)
-        (case_test (local (nth plan.free level)) value) body (unswitched_all plan (suc level) true body) (links plan level cases default) scope
+        (case_test (local (nth plan.free level)) value) body (unswitched_all plan (suc level) true body) (links plan level cases default) (links_are_branches plan level cases default b) scope
         (tests_case without_switches IsUnswitchable w (nth plan.free level) k (FlagIs low) v width known (suc n) call call' value scope (case_same (nth plan.free level) low v value h.0 (shows_left shown (locals value) (locals_all body) own) scope))
         (lists body h.1 (shows_right shown (locals value) (locals_all body) own) (suc level) (fits_first (suc level) (depth_all body) (depth_all cases) plan.levels fits) true low (allowed_first plan k true low (have_continue body) (have_continue cases) (are_crossed body) (are_crossed cases) may) scope false)
-        (chains cases h.2 (shows_right shown (locals (Case value body)) (locals_all cases) s) level (fits_rest (suc level) (depth_all body) (depth_all cases) plan.levels fits) low (allowed_rest plan k true low (have_continue body) (have_continue cases) (are_crossed body) (are_crossed cases) may) v scope otherwise default o)
-    chains (tree (Default body) cases) h s level fits low may v scope otherwise default o =
-        chains cases h.1 (shows_right shown (locals_all body) (locals_all cases) s) level (fits_rest (suc level) (depth_all body) (depth_all cases) plan.levels fits) low (allowed_rest plan k true low (have_continue body) (have_continue cases) (are_crossed body) (are_crossed cases) may) v scope otherwise default o
-    chains (tree t cases) h s level fits low may v scope otherwise default o = absurd h
+        (chains cases h.2 (shows_right shown (locals (Case value body)) (locals_all cases) s) level (fits_rest (suc level) (depth_all body) (depth_all cases) plan.levels fits) low (allowed_rest plan k true low (have_continue body) (have_continue cases) (are_crossed body) (are_crossed cases) may) v scope otherwise default b o)
+    chains (tree (Default body) cases) h s level fits low may v scope otherwise default b o =
+        chains cases h.1 (shows_right shown (locals_all body) (locals_all cases) s) level (fits_rest (suc level) (depth_all body) (depth_all cases) plan.levels fits) low (allowed_rest plan k true low (have_continue body) (have_continue cases) (are_crossed body) (are_crossed cases) may) v scope otherwise default b o
+    chains (tree t cases) h s level fits low may v scope otherwise default b o = absurd h
 
     defaults : (cases : Trees) → AreCases cases → Shows shown (locals_all cases) → (level : ℕ) → suc level + depth_all cases ≤ plan.levels → (low : Bool) → May true low (have_continue cases) (are_crossed cases) → (v : Value) (scope : AbsolutePath) →
-        Chain (nth plan.free level) low v (S.run_default width known (suc n) call cases scope) (A' (chain_of (default_link plan level cases)) scope false)
+        Chain (nth plan.free level) low v (S.run_default width known (suc n) call cases scope) (A' (opened (default_link plan level cases)) scope false)
     defaults no_trees h s level fits low may v scope = chained_end without_switches IsUnswitchable w (nth plan.free level) k low v width known (suc n) call call'
     defaults (tree (Default body) cases) h s level fits low may v scope =
         goes_so without_switches IsUnswitchable (λ j p. p.other) (λ t f p. p)
@@ -315,7 +315,7 @@ module _ (w : World) (shown : ℕ → Bool) (shows : AreShown shown w) (begun : 
         switched value cases rest level scope due h.0.0 (shows_left shown (locals value) (locals_all cases) own) (omega (arith, within)) inside low (unswitched_all plan level inside rest)
         (allowed_first plan k inside low (have_continue cases) (have_continue rest) (have_continue cases || are_crossed cases) (are_crossed rest) may)
         (due_free width known (suc n) call' plan rest h.1 level inside scope)
-        (λ low' may' v. chains cases h.0.1 (shows_right shown (locals value) (locals_all cases) own) level within low' may' v scope (S.run_default width known (suc n) call cases scope) (default_link plan level cases) (defaults cases h.0.1 (shows_right shown (locals value) (locals_all cases) own) level within low' may' v scope))
+        (λ low' may' v. chains cases h.0.1 (shows_right shown (locals value) (locals_all cases) own) level within low' may' v scope (S.run_default width known (suc n) call cases scope) (default_link plan level cases) (default_is_branch plan level cases) (defaults cases h.0.1 (shows_right shown (locals value) (locals_all cases) own) level within low' may' v scope))
         (λ d. lists rest h.2 (shows_right shown (locals (Switch value cases)) (locals_all rest) s) level (fits_rest level (suc (depth_all cases)) (depth_all rest) plan.levels fits) inside low (allowed_rest plan k inside low (have_continue cases) (have_continue rest) (have_continue cases || are_crossed cases) (are_crossed rest) may) scope d)
     lists (tree Continue rest) h s level fits inside low may scope due = continued inside low (are_crossed rest) (have_continue rest) rest (unswitched_all plan level inside rest) scope due may
     lists (tree t rest) h s level fits inside low may scope due =

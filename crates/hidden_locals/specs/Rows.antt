@@ -3,8 +3,8 @@ use Rattle.std.specs.Prelude.{List, [], ◌∷◌}
 use Rattle.acpi_values.specs.declared.operator.Plain.{Plain}
 use Rattle.acpi_values.specs.declared.operator.IntOp.TheVariants as IntOp
 use Rattle.acpi_state.specs.Forms.{ArgSlot}
-use Rattle.asl_tree.specs.Tree.{Tree, Integer, InSlot, Apply, Operated, Assigned, Package, Return, If, Else, While, Switch, Case, Default}
-use Rattle.asl_tree.specs.Tree.{Break, Continue, Trees, no_trees, tree}
+use Rattle.asl_tree.specs.Tree.{Tree, Integer, InSlot, Apply, Operated, Assigned, Package, Return, If, ElseIf, Else, While, Switch}
+use Rattle.asl_tree.specs.Tree.{Case, Default, Break, Continue, Trees, no_trees, tree}
 use Rattle.hidden_locals.specs.Turns.{local, stored, zero_word, one_word, equal}
 
 abbrev pub terms : List Tree → Trees
@@ -22,14 +22,13 @@ lone =
     (terms (Default (terms (Return (Integer 20) ∷ [])) ∷ Case (Integer 1) (terms (Return (Integer 10) ∷ [])) ∷ Case
     (Package 2 (terms (Integer 2 ∷ Integer 3 ∷ []))) (terms (Break ∷ [])) ∷ [])) ∷ [])
 
--- While (One) { Local0 = Arg0 If (Local0 == 1) { Return (10) } Else { If (Local0 == 2 || Local0 == 3) { Break } Else {
--- Return (20) } } Break }
+-- While (One) { Local0 = Arg0 If (Local0 == 1) { Return (10) } ElseIf (Local0 == 2 || Local0 == 3) { Break } Else {
+-- Return (20) } Break }
 abbrev pub lone_loop : Trees
 lone_loop =
     terms (While one_word (terms (stored first_arg (local 0) ∷ If (equal (local 0) (Integer 1)) (terms (Return (Integer 10) ∷ []))
-    ∷ Else
-    (terms (If (Apply (Plain.Number IntOp.LOr) (terms (equal (local 0) (Integer 2) ∷ equal (local 0) (Integer 3) ∷ [])) no_trees)
-    (terms (Break ∷ [])) ∷ Else (terms (Return (Integer 20) ∷ [])) ∷ [])) ∷ Break ∷ [])) ∷ [])
+    ∷ ElseIf (Apply (Plain.Number IntOp.LOr) (terms (equal (local 0) (Integer 2) ∷ equal (local 0) (Integer 3) ∷ [])) no_trees)
+    (terms (Break ∷ [])) ∷ Else (terms (Return (Integer 20) ∷ [])) ∷ Break ∷ [])) ∷ [])
 
 abbrev pub is_below_two : Tree
 is_below_two = Operated (Plain.Number IntOp.LLess) (terms (local 0 ∷ Integer 2 ∷ []))

@@ -1,10 +1,10 @@
 -- A Switch as a loop of one turn, and where it may stand so.
-use Rattle.std.specs.Prelude.{◌≤◌, ◌+◌, ℕ, suc, max, nat_le, Bool, true, false, ◌||◌, if◌then◌else◌, length, Option, Some, None}
+use Rattle.std.specs.Prelude.{◌≤◌, ◌+◌, ℕ, suc, max, nat_le, Bool, true, false, ◌||◌, if◌then◌else◌, length}
 use Rattle.asl_tree.specs.Tree.{Tree, Package, VarPackage, Method, Container', Scope, If, ElseIf, Else, While, For, Switch, Case, Default}
 use Rattle.asl_tree.specs.Tree.{Continue, Trees, no_trees, tree}
 use Rattle.hidden_locals.specs.Locals.{locals_all}
 use Rattle.hidden_locals.specs.Terms.{UsesShown}
-use Rattle.hidden_locals.specs.Turns.{others, Plan, value_local, equal, test_of, else_of, loop_of, loop_terms, continue_terms}
+use Rattle.hidden_locals.specs.Turns.{others, Plan, value_local, equal, test_of, loop_of, loop_terms, continue_terms}
 use Rattle.hidden_locals.specs.Crossing.{have_continue}
 
 -- how deep Switches nest in a term, methods aside
@@ -62,10 +62,11 @@ case_test l (Package count members) = test_of l members
 case_test l (VarPackage count members) = test_of l members
 case_test l value = equal l value
 
--- nothing stands for no chain
-abbrev pub chain_of : Option Trees → Trees
-chain_of None = no_trees
-chain_of (Some terms) = terms
+-- ElseIfs and an Else with no If before them: the first ElseIf is the If, and of an Else alone the terms are left
+abbrev pub opened : Trees → Trees
+opened (tree (ElseIf test body) rest) = tree (If test body) rest
+opened (tree (Else body) no_trees) = body
+opened terms = terms
 
 -- `level` is how many Switches of the method are around a term, and `inside` whether one of them stands between it and
 -- its loop; a For, which is taken out before, stays as it is
@@ -84,22 +85,22 @@ abbrev mutual
   unswitched_all plan level inside no_trees = no_trees
   unswitched_all plan level inside (tree (Switch value cases) rest) =
       loop_terms plan (have_continue cases) inside
-      (loop_of value (value_local plan level) (chain_of (links plan level cases (default_link plan level cases))))
+      (loop_of value (value_local plan level) (opened (links plan level cases (default_link plan level cases))))
       (unswitched_all plan level inside rest)
   unswitched_all plan level inside (tree Continue rest) = continue_terms plan inside (unswitched_all plan level inside rest)
   unswitched_all plan level inside (tree term rest) = tree (unswitched plan level inside term) (unswitched_all plan level inside rest)
 
-  -- the tests of the Cases, each in the Else of the one before it, and last the Default
-  pub links : Plan → ℕ → Trees → Option Trees → Option Trees
+  -- the tests of the Cases, an ElseIf each, and behind them the Default
+  pub links : Plan → ℕ → Trees → Trees → Trees
   links plan level no_trees default = default
   links plan level (tree (Case value body) rest) default =
-      Some (tree (If (case_test (value_local plan level) value) (unswitched_all plan (suc level) true body))
-      (else_of (links plan level rest default)))
+      tree (ElseIf (case_test (value_local plan level) value) (unswitched_all plan (suc level) true body)) (links plan level rest default)
   links plan level (tree _ rest) default = links plan level rest default
 
-  pub default_link : Plan → ℕ → Trees → Option Trees
-  default_link plan level no_trees = None
-  default_link plan level (tree (Default body) rest) = Some (unswitched_all plan (suc level) true body)
+  -- the Default as an Else, if there is one
+  pub default_link : Plan → ℕ → Trees → Trees
+  default_link plan level no_trees = no_trees
+  default_link plan level (tree (Default body) rest) = tree (Else (unswitched_all plan (suc level) true body)) no_trees
   default_link plan level (tree _ rest) = default_link plan level rest
 
 -- a method's body, or what of a block lies outside methods, with loops for its Switches

@@ -1,11 +1,11 @@
 -- A loop of one turn, which sets a Local first and ends with Break, and the flag by which a Continue leaves it.
-use Rattle.std.specs.Prelude.{ℕ, zero, suc, Bool, true, false, not, List, [], ◌∷◌, filter, Option, Some, None}
+use Rattle.std.specs.Prelude.{ℕ, zero, suc, Bool, true, false, not, List, [], ◌∷◌, filter}
 use Rattle.acpi_values.specs.declared.operator.Plain.{Plain}
 use Rattle.acpi_values.specs.declared.operator.IntOp.TheVariants as IntOp
 use Rattle.acpi_values.specs.declared.operator.DataOp.TheVariants as DataOp
 use Rattle.acpi_state.specs.Forms.{LocalSlot}
 use Rattle.asl_tree.specs.declared.term.Literal.TheVariants as Literal
-use Rattle.asl_tree.specs.Tree.{Tree, Constant, InSlot, Apply, If, Else, While, Break, Continue, Trees, no_trees, tree}
+use Rattle.asl_tree.specs.Tree.{Tree, Constant, InSlot, Apply, If, While, Break, Continue, Trees, no_trees, tree}
 use Rattle.hidden_locals.specs.Locals.{is_named}
 
 -- the Locals that are not among some, the lowest first
@@ -53,10 +53,6 @@ joined test l (tree member members) = joined (Apply (Plain.Number IntOp.LOr) (tr
 abbrev pub test_of : Tree → Trees → Tree
 test_of l no_trees = zero_word
 test_of l (tree member members) = joined (equal l member) l members
-
-abbrev pub else_of : Option Trees → Trees
-else_of None = no_trees
-else_of (Some body) = tree (Else body) no_trees
 
 abbrev pub then_trees : Trees → Trees → Trees
 then_trees no_trees us = us

@@ -147,23 +147,6 @@ pub fn render_all(backends: &mut Vec<Box<dyn Backend>>, table: &[Piece]) -> Resu
     finish_all(backends)
 }
 
-/// Lets the outputs go whose kinds are not asked for, and makes the texts of the others over the pieces of a table. After an error they
-/// are still there, in their order.
-pub fn render_asked(
-    backends: &mut Vec<Box<dyn Backend>>,
-    asked: Asked,
-    table: &[Piece],
-) -> Result<(), AllocError>
-    ensures kinds { Each (λ b b2. kind_of b2 ≡ kind_of b) (filter (λ b. is_asked asked (kind_of b)) backends.old.items) backends.new.items }
-    ensures there { IsOneOfEach (λ b. kind_of b) backends.old.items → (kind : SpecKind) → is_asked asked kind ≡ true →
-        has_kind (λ b. kind_of b) kind backends.new.items ≡ true }
-    ensures done { OnOk result (All (λ b. finished b ≡ true) backends.new.items) }
-    ensures shared { OnOk result (All (λ b. pieces b ≡ table.now) backends.new.items) }
-{
-    keep_asked(backends, asked);
-    render_all(backends, table)
-}
-
 fn text_of_box(backend: &Box<dyn Backend>) -> &[u8]
     requires { finished backend.now ≡ true }
     ensures { result.now ≡ rendering (kind_of backend.now) (pieces backend.now) }

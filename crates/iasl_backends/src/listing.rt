@@ -99,9 +99,21 @@ fn put_number(out: &mut Vec<u8>, number: u32) -> Result<(), AllocError>
     put(out, digits)
 }
 
+/// The most bytes of a listing's lines of source: 1 GiB. Each piece stands under the text of its line, so the listing of a source with
+/// lines of megabytes would be a thousand times as long as the source. Such a one is answered as want of memory.
+const MOST_TEXT: usize = 1_073_741_824;
+
+// Whether a listing of so many bytes has room for a line of so many.
+fn has_room(text: usize, line: usize) -> bool {
+    line <= MOST_TEXT && text <= MOST_TEXT - line
+}
+
 fn put_line(out: &mut Vec<u8>, piece: &Piece) -> Result<(), AllocError>
     ensures { OnOk result (out.new.items ≡ out.old.items ++ spec.source_line piece.now) }
 {
+    if !has_room(out.len(), piece.source.as_bytes().len()) {
+        return Err(AllocError);
+    }
     put_number(out, piece.place.line)?;
     put(out, b"  ")?;
     put(out, piece.source.as_bytes())?;

@@ -11,4 +11,5 @@ pub mod Pieces
 pub mod Fates
 pub mod Refusals
 mod Outputs
+pub mod Made
 mod Calls

@@ -1,9 +1,11 @@
 -- The lines that tell of tables, and what is put of these, as they are gathered.
-use Rattle.std.specs.Prelude.{◌≡◌, ℕ, List, [], ◌∷◌, ◌++◌, length}
+use Rattle.std.specs.Prelude.{◌≡◌, ℕ, ◌<◌, ⊤, List, [], ◌∷◌, ◌++◌, length}
 use Rattle.iasl_messages.specs.Console.{table_line}
 use Rattle.iasl_messages.specs.declared.place.Piece.{Piece}
 use Rattle.iasl_options.specs.Asking.{Asked}
 use Rattle.iasl_backends.specs.Table.{table_bytes}
+use Rattle.block_outcomes.specs.declared.outcome.Compiled.{Compiled}
+use Rattle.block_outcomes.specs.declared.outcome.Compiled.TheVariants.{Made, Refused}
 use Rattle.block_outcomes.specs.declared.outcome.Table.{Table}
 use Rattle.table_outputs.specs.declared.decision.TableOutputs.{TableOutputs}
 use Rattle.table_outputs.specs.Files.{table_name, table_files}
@@ -33,3 +35,8 @@ pub record AreOutputsOf (asked : Asked) (file : List ℕ) (tables : List Table) 
   pub files : all_files all.tables ≡ files_of_tables asked file tables
   pub kinds : HaveKinds (kinds_in asked) all.tables
   pub pieces : last_made all.tables ≡ last_pieces tables
+
+-- a source that is compiled has a table
+abbrev pub HasTable : Compiled → Type 0
+HasTable (Made tables notes) = 0 < length tables
+HasTable (Refused messages) = ⊤

@@ -337,21 +337,32 @@ fn outputs_of(alloc: Global, options: &Options, tables: Tables) -> Result<Output
     Ok(all)
 }
 
+// The last of some tables, which is taken off.
+fn take_last(tables: &mut Vec<TableOutputs>) -> TableOutputs
+    requires { 0 < length tables.old.items }
+    ensures { tables.old.items ≡ tables.new.items ++ result ∷ [] }
+{
+    match tables.pop() {
+        Some(table) => table,
+        None => unreachable!(),
+    }
+}
+
 // The decision to put tables, of which there is one, with this text of the console.
-fn decide_made(text: Text, tables: TableList) -> Result<Decision, AllocError>
-    ensures due { IfOk result (λ decision. end_of decision ≡ record { status = 0; text = text; due = all_files tables }) }
-    ensures decided { (asked : Asked) → asked.only ≡ false → HaveKinds (kinds_in asked) tables → IfOk result (IsDecidedBy asked) }
-    ensures made { IfOk result (IsMadeOf (last_made tables)) }
+fn decide_made(text: Text, tables: TableList) -> Decision
+    requires { 0 < length tables }
+    ensures due { end_of result ≡ record { status = 0; text = text; due = all_files tables } }
+    ensures decided { (asked : Asked) → asked.only ≡ false → HaveKinds (kinds_in asked) tables → IsDecidedBy asked result }
+    ensures made { IsMadeOf (last_made tables) result }
 {
     let mut earlier = tables.into_vec();
-    // (each source has a table)
-    let TableOutputs { names, pieces } = earlier.pop().ok_or(AllocError)?;
-    Ok(Decision::Makes(Making {
+    let TableOutputs { names, pieces } = take_last(&mut earlier);
+    Decision::Makes(Making {
         text,
         earlier: TableList::from_vec(earlier),
         names: OutputNames::OfTable(names),
         pieces,
-    }))
+    })
 }
 
 // What is due of tables in pieces, with a further line of the console behind those of the tables.
@@ -364,6 +375,7 @@ fn make_tables(
     more: &Text,
 ) -> Result<Decision, AllocError>
     requires texts { AreTexts options.now }
+    requires some { 0 < length tables }
     requires own { HaveAsciiNames tables }
     requires compiles { options.now.only ≡ false }
     requires notes { AreWithin (length files.now) notes }
@@ -384,7 +396,7 @@ fn make_tables(
     push_text(&mut lines, more)?;
     let line = Text::from_vec(alloc, lines)?;
     let text = console_text(alloc, brief, files, notes, &line)?;
-    decide_made(text, tables)
+    Ok(decide_made(text, tables))
 }
 
 // How tables are to be written.

@@ -2,6 +2,7 @@
 ghost use Rattle.std.specs.Prelude.{◌≡◌, ◌<◌, ◌^◌, ◌∷◌, [], length, All, IfOk};
 ghost use Rattle.data_tables.specs.Promise.{Answers, TellsWithin as DataTellsWithin};
 ghost use Rattle.asl_tables.specs.Compiled.{HasAsciiNames, TellsWithin};
+ghost use Rattle.iasl_tool.specs.Outputs.{HasTable};
 ghost use Rattle.iasl_tool.specs.Sources.{is_data_source, data_answer, of_data, of_source};
 
 use asl_tables::compile::{Style, compile};
@@ -74,8 +75,9 @@ fn is_data_source(alloc: Global, generic: bool, lines: &[Line]) -> Result<bool, 
     }
 }
 
-/// What lines come to: those of a data table, or those of ASL. Where a generic table is asked for, they are one. Each
-/// message stands in one of their files.
+/// What lines come to: those of a data table, or those of ASL. Where a generic table is asked for, they are one. Where they
+/// are not refused, there is a table. Each message stands in one of their files.
+#[tactic(auto, using(crate::proofs::Made::source_has))]
 pub(crate) fn compile_source(
     alloc: Global,
     generic: bool,
@@ -86,6 +88,7 @@ pub(crate) fn compile_source(
     requires main { 0 < length lines.now.files }
     requires files { All (λ line. line.file < length lines.now.files) lines.now.list }
     ensures value { IfOk result (λ it. it ≡ of_source generic style lines.now.list) }
+    ensures some { IfOk result HasTable }
     ensures own { IfOk result HasAsciiNames }
     ensures within { IfOk result (TellsWithin (length lines.now.files)) }
 {

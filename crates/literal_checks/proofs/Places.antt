@@ -10,8 +10,9 @@ use Rattle.asl_syntax.specs.Written.{Written, number as a_number, item, apply, W
 use Rattle.asl_syntax.specs.Within.{IsIn, IsWithin, AreWithin, IsGroupWithin}
 use Rattle.asl_words.specs.declared.operator.Parameter.{Parameter}
 use Rattle.word_meanings.specs.Meanings.{meaning_of}
-use Rattle.asl_terms.specs.Terms.{fault_at, is_given}
-use Rattle.asl_terms.specs.Places.{AreTold}
+use Rattle.term_plans.specs.Places.{fault_at}
+use Rattle.asl_terms.specs.Terms.{is_given}
+use Rattle.term_plans.specs.Places.{AreTold}
 use Rattle.asl_shape.proofs.Places.{as_all}
 use Rattle.literal_checks.specs.Literals.{told_number, is_first_wide, behind_first, parameters_in, holds_wide, unless, told, told_all, told_group, told_braces, told_block, cut_literals, cut_literals_at}
 

@@ -16,7 +16,8 @@ use Rattle.word_meanings.specs.declared.meaning.Meaning.{Meaning}
 use Rattle.word_meanings.specs.declared.meaning.Meaning.TheVariants as is
 use Rattle.asl_words.specs.Operators.{parameters_of, body_of}
 use Rattle.word_meanings.specs.Meanings.{meaning_of}
-use Rattle.asl_terms.specs.Terms.{fault_at, is_given}
+use Rattle.term_plans.specs.Places.{fault_at}
+use Rattle.asl_terms.specs.Terms.{is_given}
 
 -- a literal over 2 ^ 32 - 1 is told where it stands
 abbrev pub told_number : Place → ℕ → List Message

@@ -1,5 +1,5 @@
 -- A formed program with loops for its Switches may be written.
-use Rattle.std.proofs.Common.{◌≡◌, ℕ, zero, suc, ◌<◌, Bool, true, false, List, [], ◌∷◌, Option, Some, None, refl, arith}
+use Rattle.std.proofs.Common.{◌≡◌, ℕ, zero, suc, ◌<◌, Bool, true, false, List, [], ◌∷◌, refl, arith}
 use Rattle.std.specs.Prelude.{if◌then◌else◌, filter, not}
 use Rattle.acpi_values.specs.declared.operator.Plain.{Plain}
 use Rattle.acpi_values.specs.declared.operator.IntOp.TheVariants as IntOp
@@ -14,8 +14,8 @@ use Rattle.aml_sessions.specs.Ready.{is_expression, SpotReady, AreItems}
 use Rattle.named_sessions.specs.Shaped.{LetterShaped, ElementShaped, IsCaseMember, AreCaseMembers, HaveCaseMembers, IsCaseValue, IsFollowed, IsFormed, IsFormedSpot, IsFormedAlone, AreFormedOperands, AreFormedSpots, AreFormedValues, AreFormedElements, AreFormed, AreFormedCases, AreShaped}
 use Rattle.hidden_locals.specs.Locals.{is_named, locals_all}
 use Rattle.hidden_locals.specs.Crossing.{have_continue}
-use Rattle.hidden_locals.specs.Turns.{Plan, others, nth, local, flag, value_local, zero_word, one_word, stored, equal, joined, test_of, else_of, then_trees, loop_of, loop_terms, continue_terms}
-use Rattle.hidden_locals.specs.Switches.{plan_of, case_test, chain_of, unswitched, unswitched_all, links, default_link, without_switches}
+use Rattle.hidden_locals.specs.Turns.{Plan, others, nth, local, flag, value_local, zero_word, one_word, stored, equal, joined, test_of, then_trees, loop_of, loop_terms, continue_terms}
+use Rattle.hidden_locals.specs.Switches.{plan_of, case_test, opened, unswitched, unswitched_all, links, default_link, without_switches}
 
 -- ---- the Locals that are taken
 
@@ -185,9 +185,10 @@ module _ (Listed : List (FieldItem UnitName) → Type 0) (Symbols Switches : Typ
   stored_formed : (t : Tree) (i : ℕ) → i < 8 → Value t → Loop (stored t (local i))
   stored_formed t i small v = (tt, (v, (small, tt)), refl, tt)
 
-  else_formed : (o : Option Trees) → Loops (chain_of o) → Loops (else_of o)
-  else_formed None h = tt
-  else_formed (Some body) h = (h, tt, tt)
+  opened_formed : (ts : Trees) → Loops ts → Loops (opened ts)
+  opened_formed (tree (ElseIf test body) rest) h = (h.0, tt, h.2)
+  opened_formed (tree (Else body) no_trees) h = h.0
+  opened_formed ts h = h
 
   -- no Switch is left
   follows_all : (t : Tree) (us vs : Trees) → Loop t → IsFollowed t us → IsFollowed t vs
@@ -247,7 +248,7 @@ module _ (Listed : List (FieldItem UnitName) → Type 0) (Symbols Switches : Typ
     term_formed (Operated op args) other h plan small level inside = value_kept (Operated op args) refl h
     term_formed (Assigned target value) other h plan small level inside = value_kept (Assigned target value) refl h
     term_formed (AssignedBy op target value) other h plan small level inside = value_kept (AssignedBy op target value) refl h
-    term_formed (ElseIf test body) other h plan small level inside = (h.0, h.1, value_kept test h.1 h.2, all_formed body h.3 plan small level inside)
+    term_formed (ElseIf test body) other h plan small level inside = (h.0, value_kept test h.0 h.1, all_formed body h.2 plan small level inside)
     term_formed (Switch value cases) other h plan small level inside = absurd other
     term_formed (Case value body) other h plan small level inside = absurd h
     term_formed (Default body) other h plan small level inside = absurd h
@@ -264,21 +265,20 @@ module _ (Listed : List (FieldItem UnitName) → Type 0) (Symbols Switches : Typ
     term_formed (VarPackage size elements) other h plan small level inside = value_kept (VarPackage size elements) refl h
     term_formed (CondRefOf place target) other h plan small level inside = value_kept (CondRefOf place target) refl h
 
-    chain_formed : (cases : Trees) → AreFormedCases ⊥ Listed Symbols Switches cases → (plan : Plan) → TakesSmall plan → (level : ℕ) → Loops (chain_of (links plan level cases (default_link plan level cases)))
-    chain_formed no_trees h plan small level = tt
-    chain_formed (tree (Case value body) cases) h plan small level =
+    links_formed : (cases : Trees) → AreFormedCases ⊥ Listed Symbols Switches cases → (plan : Plan) → TakesSmall plan → (level : ℕ) → Loops (links plan level cases (default_link plan level cases))
+    links_formed no_trees h plan small level = tt
+    links_formed (tree (Case value body) cases) h plan small level =
         let test : Value (case_test (value_local plan level) value) = test_formed (nth plan.free level) value (small level) h.0 in
-        let others : Loops (chain_of (links plan level cases (default_link plan level cases))) = chain_formed cases h.2 plan small level in
-        ((test.0, test.1, all_formed body h.1 plan small (suc level) true), tt, else_formed (links plan level cases (default_link plan level cases)) others)
-    chain_formed (tree (Default body) no_trees) h plan small level = all_formed body h plan small (suc level) true
-    chain_formed (tree (Default body) (tree t ts)) h plan small level = absurd h
-    chain_formed (tree _ cases) h plan small level = absurd h
+        ((test.0, test.1, all_formed body h.1 plan small (suc level) true), tt, links_formed cases h.2 plan small level)
+    links_formed (tree (Default body) no_trees) h plan small level = (all_formed body h plan small (suc level) true, tt, tt)
+    links_formed (tree (Default body) (tree t ts)) h plan small level = absurd h
+    links_formed (tree _ cases) h plan small level = absurd h
 
     pub all_formed : (ts : Trees) → AreFormed ⊥ Listed Symbols Switches ts → (plan : Plan) → TakesSmall plan → (level : ℕ) (inside : Bool) → Loops (unswitched_all plan level inside ts)
     all_formed no_trees h plan small level inside = tt
     all_formed (tree (Switch value cases) rest) h plan small level inside =
-        loop_terms_formed plan small (have_continue cases) inside value (nth plan.free level) (chain_of (links plan level cases (default_link plan level cases))) (unswitched_all plan level inside rest) (small level)
-        (h.0.1, value_kept value h.0.1 h.0.2) (chain_formed cases h.0.3 plan small level) (all_formed rest h.2 plan small level inside)
+        loop_terms_formed plan small (have_continue cases) inside value (nth plan.free level) (opened (links plan level cases (default_link plan level cases))) (unswitched_all plan level inside rest) (small level)
+        (h.0.1, value_kept value h.0.1 h.0.2) (opened_formed (links plan level cases (default_link plan level cases)) (links_formed cases h.0.3 plan small level)) (all_formed rest h.2 plan small level inside)
     all_formed (tree Continue rest) h plan small level inside = continue_formed plan small inside (unswitched_all plan level inside rest) (all_formed rest h.2 plan small level inside)
     all_formed (tree t rest) h plan small level inside = (term_formed t tt h.0 plan small level inside, tt, all_formed rest h.2 plan small level inside)
 

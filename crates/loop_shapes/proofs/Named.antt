@@ -1,17 +1,15 @@
--- A program whose operators are named and whose ElseIfs are nested has Locals enough where it had them.
-use Rattle.std.proofs.Common.{◌≡◌, ℕ, zero, suc, Bool, true, false, List, [], ◌++◌, Option, Some, None, refl, ap, arith}
-use Rattle.std.specs.Prelude.{◌||◌}
+-- A program whose operators are named has Locals enough where it had them.
+use Rattle.std.proofs.Common.{ℕ, zero, suc, List, [], ◌++◌, Option, Some, None, refl}
 use Rattle.acpi_values.specs.declared.operator.Plain.{Plain}
 use Rattle.acpi_values.specs.Operators.{row_of}
 use Rattle.asl_meaning.specs.Meaning.{target_operator}
 use Rattle.asl_tree.specs.declared.term.Compound.{Compound}
 use Rattle.asl_tree.specs.Symbols.{compound_operator}
 use Rattle.asl_tree.specs.Tree.{Tree, Omitted, Call, Apply, Operated, Assigned, AssignedBy, Buffer, Package, VarPackage, CondRefOf, Return, Name, Method, Container', Scope, If, ElseIf, Else, While, For, Print, Switch, Case, Default, OperationRegion, BankField, CreateField, Trees, no_trees, tree}
-use Rattle.asl_lower.specs.Nodes.{given, last_target, applied, assigned, assigned_by, before, named, inner_args, named_args, named_all}
-use Rattle.hidden_locals.specs.Crossing.{have_continue}
+use Rattle.asl_lower.specs.Nodes.{given, last_target, applied, assigned, assigned_by, named, inner_args, named_all}
 use Rattle.hidden_locals.specs.Locals.{locals, locals_all}
-use Rattle.hidden_locals.specs.Switches.{are_crossed, HaveLocals}
-use Rattle.hidden_locals.proofs.Steady.{Fewer, fewer_none, fewer_join, fewer_left, fewer_right, fewer_both, Steady, SteadyAll, same_term, same_terms, steady_then, steady_more, have_enough, steady_if, steady_else_if, steady_else, steady_while, steady_for, steady_switch, steady_case, steady_default, steady_container, steady_scope, steady_method}
+use Rattle.hidden_locals.specs.Switches.{HaveLocals}
+use Rattle.hidden_locals.proofs.Steady.{Fewer, fewer_none, fewer_join, fewer_left, fewer_right, fewer_both, Steady, SteadyAll, same_term, same_terms, steady_more, have_enough, steady_if, steady_else_if, steady_else, steady_while, steady_for, steady_switch, steady_case, steady_default, steady_container, steady_scope, steady_method}
 
 -- ---- operators
 
@@ -49,59 +47,19 @@ assigned_fewer target value h k inner = by (target_operator value)
     by None = stored_fewer (inner_args value) (named target) (named value) (locals target ++ locals value) (fewer_left (locals (named target)) (locals target) (locals value) h) (fewer_right (locals (named value)) (locals target) (locals value) k)
     by (Some op) = applied_fewer op (inner_args value) (named target) (locals target ++ locals value) (fewer_right (locals_all (inner_args value)) (locals target) (locals value) inner) (fewer_left (locals (named target)) (locals target) (locals value) h)
 
--- ---- an ElseIf before other terms
-
-either_none : (a : Bool) → (a || false) ≡ a
-either_none true = refl
-either_none false = refl
-
-either_assoc : (a b c : Bool) → ((a || (b || false)) || c) ≡ (a || (b || c))
-either_assoc true b c = refl
-either_assoc false true c = refl
-either_assoc false false c = refl
-
-lone : (test : Tree) (body rest : Trees) → SteadyAll (tree (Else (tree (If test body) no_trees)) rest) (tree (ElseIf test body) rest)
-lone test body rest = record {
-  same_depth = omega arith;
-  same_crossed = ap (λ b. b || are_crossed rest) (either_none (are_crossed body));
-  same_continue = ap (λ b. b || have_continue rest) (either_none (have_continue body));
-  fewer = fewer_both ((locals test ++ locals_all body) ++ []) (locals test ++ locals_all body) (locals_all rest) (locals_all rest)
-      (fewer_join (locals test ++ locals_all body) [] (locals test ++ locals_all body) (λ i e. e) (fewer_none (locals test ++ locals_all body))) (λ i e. e);
-  has = λ k. ((k.0, tt), k.1);
-}
-
-with_else : (test : Tree) (body other rest : Trees) → SteadyAll (tree (Else (tree (If test body) (tree (Else other) no_trees))) rest) (tree (ElseIf test body) (tree (Else other) rest))
-with_else test body other rest =
-    let first : List ℕ = locals test ++ locals_all body in
-    let all : List ℕ = first ++ (locals_all other ++ locals_all rest) in
-    record {
-      same_depth = omega arith;
-      same_crossed = either_assoc (are_crossed body) (are_crossed other) (are_crossed rest);
-      same_continue = either_assoc (have_continue body) (have_continue other) (have_continue rest);
-      fewer = fewer_join (first ++ (locals_all other ++ [])) (locals_all rest) all
-          (fewer_join first (locals_all other ++ []) all (fewer_left first first (locals_all other ++ locals_all rest) (λ i e. e))
-          (fewer_join (locals_all other) [] all (fewer_right (locals_all other) first (locals_all other ++ locals_all rest) (fewer_left (locals_all other) (locals_all other) (locals_all rest) (λ i e. e))) (fewer_none all)))
-          (fewer_right (locals_all rest) first (locals_all other ++ locals_all rest) (fewer_right (locals_all rest) (locals_all other) (locals_all rest) (λ i e. e)));
-      has = λ k. ((k.0, (k.1.0, tt)), k.1.1);
-    }
-
-before_steady : (t : Tree) (ts : Trees) → SteadyAll (before t ts) (tree t ts)
-before_steady (ElseIf test body) (tree (Else other) rest) = with_else test body other rest
-before_steady (ElseIf test body) no_trees = lone test body no_trees
-before_steady (ElseIf test body) (tree t rest) = lone test body (tree t rest)
-before_steady t ts = same_terms (tree t ts)
+-- ---- terms
 
 mutual
   steady : (t : Tree) → Steady (named t) t
-  steady (Call at name args) = record { same_depth = refl; same_crossed = refl; same_continue = refl; fewer = args_fewer args; has = λ k. tt }
+  steady (Call at name args) = record { same_depth = refl; same_crossed = refl; same_continue = refl; fewer = (all_steady args).fewer; has = λ k. tt }
   steady (Buffer size bytes) = record { same_depth = refl; same_crossed = refl; same_continue = refl; fewer = (steady size).fewer; has = λ k. tt }
-  steady (Package n elements) = record { same_depth = refl; same_crossed = refl; same_continue = refl; fewer = args_fewer elements; has = λ k. tt }
+  steady (Package n elements) = record { same_depth = refl; same_crossed = refl; same_continue = refl; fewer = (all_steady elements).fewer; has = λ k. tt }
   steady (CondRefOf place target) = record { same_depth = refl; same_crossed = refl; same_continue = refl; fewer = fewer_both (locals (named place)) (locals place) (locals (named target)) (locals target) ((steady place).fewer) ((steady target).fewer); has = λ k. tt }
   steady (Return value) = record { same_depth = refl; same_crossed = refl; same_continue = refl; fewer = (steady value).fewer; has = λ k. tt }
   steady (Name at name value) = record { same_depth = refl; same_crossed = refl; same_continue = refl; fewer = (steady value).fewer; has = λ k. tt }
-  steady (OperationRegion at name space args) = record { same_depth = refl; same_crossed = refl; same_continue = refl; fewer = args_fewer args; has = λ k. tt }
+  steady (OperationRegion at name space args) = record { same_depth = refl; same_crossed = refl; same_continue = refl; fewer = (all_steady args).fewer; has = λ k. tt }
   steady (BankField here from region to bank value flags items) = record { same_depth = refl; same_crossed = refl; same_continue = refl; fewer = (steady value).fewer; has = λ k. tt }
-  steady (CreateField form args at name) = record { same_depth = refl; same_crossed = refl; same_continue = refl; fewer = args_fewer args; has = λ k. tt }
+  steady (CreateField form args at name) = record { same_depth = refl; same_crossed = refl; same_continue = refl; fewer = (all_steady args).fewer; has = λ k. tt }
   steady (Method at name flags body) = steady_method at name flags (named_all body) body (all_steady body)
   steady (Container' kind at name body) = steady_container kind at name (named_all body) body (all_steady body)
   steady (Scope here at name body) = steady_scope here at name (named_all body) body (all_steady body)
@@ -109,29 +67,25 @@ mutual
   steady (ElseIf test body) = steady_else_if (named test) test (named_all body) body ((steady test).fewer) (all_steady body)
   steady (While test body) = steady_while (named test) test (named_all body) body ((steady test).fewer) (all_steady body)
   steady (For start test step body) = steady_for (named start) start (named test) test (named step) step (named_all body) body ((steady start).fewer) ((steady test).fewer) ((steady step).fewer) (all_steady body)
-  steady (Print place format args) = record { same_depth = refl; same_crossed = refl; same_continue = refl; fewer = fewer_both (locals (named place)) (locals place) (locals_all (named_args args)) (locals_all args) ((steady place).fewer) (args_fewer args); has = λ k. tt }
+  steady (Print place format args) = record { same_depth = refl; same_crossed = refl; same_continue = refl; fewer = fewer_both (locals (named place)) (locals place) (locals_all (named_all args)) (locals_all args) ((steady place).fewer) (all_steady args).fewer; has = λ k. tt }
   steady (Else body) = steady_else (named_all body) body (all_steady body)
   steady (Switch value cases) = steady_switch (named value) value (named_all cases) cases ((steady value).fewer) (all_steady cases)
   steady (Case value body) = steady_case (named value) value (named_all body) body ((steady value).fewer) (all_steady body)
   steady (Default body) = steady_default (named_all body) body (all_steady body)
-  steady (Apply op args targets) = record { same_depth = refl; same_crossed = refl; same_continue = refl; fewer = fewer_both (locals_all (named_args args)) (locals_all args) (locals_all (named_args targets)) (locals_all targets) (args_fewer args) (args_fewer targets); has = λ k. tt }
-  steady (VarPackage size elements) = record { same_depth = refl; same_crossed = refl; same_continue = refl; fewer = fewer_both (locals (named size)) (locals size) (locals_all (named_args elements)) (locals_all elements) ((steady size).fewer) (args_fewer elements); has = λ k. tt }
-  steady (Operated op args) = record { same_depth = refl; same_crossed = refl; same_continue = refl; fewer = applied_fewer op (named_args args) Omitted (locals_all args) (args_fewer args) (fewer_none (locals_all args)); has = λ k. tt }
+  steady (Apply op args targets) = record { same_depth = refl; same_crossed = refl; same_continue = refl; fewer = fewer_both (locals_all (named_all args)) (locals_all args) (locals_all (named_all targets)) (locals_all targets) (all_steady args).fewer (all_steady targets).fewer; has = λ k. tt }
+  steady (VarPackage size elements) = record { same_depth = refl; same_crossed = refl; same_continue = refl; fewer = fewer_both (locals (named size)) (locals size) (locals_all (named_all elements)) (locals_all elements) ((steady size).fewer) (all_steady elements).fewer; has = λ k. tt }
+  steady (Operated op args) = record { same_depth = refl; same_crossed = refl; same_continue = refl; fewer = applied_fewer op (named_all args) Omitted (locals_all args) (all_steady args).fewer (fewer_none (locals_all args)); has = λ k. tt }
   steady (Assigned target value) = record { same_depth = refl; same_crossed = refl; same_continue = refl; fewer = assigned_fewer target value (steady target).fewer (steady value).fewer (inner_fewer value); has = λ k. tt }
   steady (AssignedBy op target value) = record { same_depth = refl; same_crossed = refl; same_continue = refl; fewer = by_fewer op target value (steady target).fewer (steady value).fewer; has = λ k. tt }
   steady t = same_term t
 
   inner_fewer : (value : Tree) → Fewer (locals_all (inner_args value)) (locals value)
-  inner_fewer (Operated op args) = args_fewer args
+  inner_fewer (Operated op args) = (all_steady args).fewer
   inner_fewer value = fewer_none (locals value)
-
-  args_fewer : (ts : Trees) → Fewer (locals_all (named_args ts)) (locals_all ts)
-  args_fewer no_trees = λ i e. e
-  args_fewer (tree t ts) = fewer_both (locals (named t)) (locals t) (locals_all (named_args ts)) (locals_all ts) (steady t).fewer (args_fewer ts)
 
   all_steady : (ts : Trees) → SteadyAll (named_all ts) ts
   all_steady no_trees = same_terms no_trees
-  all_steady (tree t ts) = steady_then (before (named t) (named_all ts)) (tree (named t) (named_all ts)) (tree t ts) (before_steady (named t) (named_all ts)) (steady_more (named t) t (named_all ts) ts (steady t) (all_steady ts))
+  all_steady (tree t ts) = steady_more (named t) t (named_all ts) ts (steady t) (all_steady ts)
 
 pub named_locals : (program : Trees) → HaveLocals program → HaveLocals (named_all program)
 named_locals program h = have_enough (named_all program) program (all_steady program) h

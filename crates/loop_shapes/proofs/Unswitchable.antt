@@ -175,7 +175,7 @@ module _ (Listed : List (FieldItem UnitName) → Type 0) (Symbols Switches : Typ
     statement (Operated op args) h k = value_no_method (Operated op args) refl h
     statement (Assigned target value) h k = value_no_method (Assigned target value) refl h
     statement (AssignedBy op target value) h k = value_no_method (AssignedBy op target value) refl h
-    statement (ElseIf test body) h k = (value_no_method test h.1 h.2, statements body h.3 k)
+    statement (ElseIf test body) h k = (value_no_method test h.0 h.1, statements body h.2 k)
     statement (Switch value cases) h k = (value_no_method value h.1 h.2, cases_of cases h.3 k)
     statement (Case value body) h k = absurd h
     statement (Default body) h k = absurd h

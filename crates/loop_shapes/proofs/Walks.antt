@@ -1,5 +1,5 @@
 -- What is told of terms in order is the same with loops for their Switches.
-use Rattle.std.proofs.Common.{◌≡◌, ℕ, suc, Bool, true, false, List, [], ◌++◌, Option, Some, None, refl, sym, ap, ◌∙◌, append_assoc}
+use Rattle.std.proofs.Common.{◌≡◌, ℕ, suc, Bool, true, false, List, [], ◌++◌, refl, sym, ap, ◌∙◌, append_assoc}
 use Rattle.acpi_values.specs.declared.operator.Plain.{Plain}
 use Rattle.acpi_values.specs.declared.operator.IntOp.TheVariants as IntOp
 use Rattle.acpi_values.specs.Paths.{AbsolutePath}
@@ -9,14 +9,14 @@ use Rattle.asl_tree.specs.FieldItems.{FieldItem}
 use Rattle.asl_tree.specs.declared.path.Path.{Path}
 use Rattle.asl_tree.specs.declared.term.Literal.{Literal}
 use Rattle.asl_tree.specs.Names.{declared_path}
-use Rattle.asl_tree.specs.Tree.{At, Tree, Integer, Constant, String, InSlot, Buffer, Package, VarPackage, Apply, Method, Container', Scope, If, ElseIf, Else, While, For, Print, Switch, Case, Default, Break, Continue, Trees, no_trees, tree, UnitName}
+use Rattle.asl_tree.specs.Tree.{At, Tree, Integer, Constant, String, InSlot, Buffer, Package, VarPackage, Apply, Method, Container', Scope, If, ElseIf, Else, While, For, Switch, Case, Default, Break, Continue, Trees, no_trees, tree, UnitName}
 use Rattle.asl_meaning.specs.Declarations.{As, Declarations, with_declared, declare, declare_all}
 use Rattle.acpi_names.proofs.Mentions.{right_nil}
 use Rattle.asl_fold.proofs.Declared.{both}
 use Rattle.named_sessions.specs.Shaped.{IsCaseMember, AreCaseMembers, HaveCaseMembers, IsCaseValue, IsFormed, AreFormed, AreFormedCases}
 use Rattle.hidden_locals.specs.Crossing.{have_continue}
-use Rattle.hidden_locals.specs.Turns.{Plan, nth, local, flag, value_local, zero_word, one_word, stored, equal, joined, test_of, else_of, then_trees, turn_of, loop_of, loop_terms, continue_terms}
-use Rattle.hidden_locals.specs.Switches.{plan_of, case_test, chain_of, unswitched, unswitched_all, links, default_link, HasDefaultsLast, HaveDefaultsLast, EndWithDefault}
+use Rattle.hidden_locals.specs.Turns.{Plan, nth, local, flag, value_local, zero_word, one_word, stored, equal, joined, test_of, then_trees, turn_of, loop_of, loop_terms, continue_terms}
+use Rattle.hidden_locals.specs.Switches.{plan_of, case_test, opened, unswitched, unswitched_all, links, default_link, HasDefaultsLast, HaveDefaultsLast, EndWithDefault}
 use Rattle.hidden_locals.proofs.Declared.{then_declares, term_declares, chain_declares, all_declare}
 
 abbrev pub either : Tree → Tree → Tree
@@ -66,7 +66,7 @@ module _ (Listed : List (FieldItem UnitName) → Type 0) (Symbols Switches : Typ
   mutual
     default_last : (t : Tree) → IsFormed ⊥ Listed Symbols Switches t → HasDefaultsLast t
     default_last (If test body) h = defaults_last body h.2
-    default_last (ElseIf test body) h = defaults_last body h.3
+    default_last (ElseIf test body) h = defaults_last body h.2
     default_last (Else body) h = defaults_last body h
     default_last (While test body) h = defaults_last body h.2
     default_last (For start test step body) h = absurd h.0
@@ -153,10 +153,12 @@ module _ {A : Type 0} (walk : Walk A) where
   continue_walks plan false rest s d = skip Continue rest s d (walk.of_continue s d) refl
   continue_walks plan true rest s d = skip (stored one_word (flag plan)) (tree Break rest) s d (stored_quiet _ _ s d) refl ∙ skip Break rest s d (walk.of_break s d) refl
 
-  else_walks : (o : Option Trees) (s : AbsolutePath) (d : Declarations) → Ws (else_of o) s d ≡ Ws (chain_of o) s d
-  else_walks None s d = refl
-  else_walks (Some body) s d =
-      walk.some (Else body) no_trees s d ∙ both (W (Else body) s d) (Ws no_trees s (declare_all body s d)) (Ws body s d) [] (walk.of_else body s d) (walk.none s (declare_all body s d)) ∙ right_nil (Ws body s d)
+  opened_walks : (ts : Trees) (s : AbsolutePath) (d : Declarations) → Ws (opened ts) s d ≡ Ws ts s d
+  opened_walks (tree (ElseIf test body) rest) s d =
+      walk.some (If test body) rest s d ∙ ap (λ xs. xs ++ Ws rest s (declare_all body s d)) (walk.of_if test body s d ∙ sym (walk.of_else_if test body s d)) ∙ sym (walk.some (ElseIf test body) rest s d)
+  opened_walks (tree (Else body) no_trees) s d =
+      sym (walk.some (Else body) no_trees s d ∙ both (W (Else body) s d) (Ws no_trees s (declare_all body s d)) (Ws body s d) [] (walk.of_else body s d) (walk.none s (declare_all body s d)) ∙ right_nil (Ws body s d))
+  opened_walks ts s d = refl
 
   -- what a Case compares with tells nothing, and so do the tests
   member_quiet : (t : Tree) → IsCaseMember t → Quiet t
@@ -204,7 +206,7 @@ module _ {A : Type 0} (walk : Walk A) where
       term_same (If test body) h plan level inside s d =
           walk.of_if test (unswitched_all plan level inside body) s d ∙ ap (λ xs. W test s d ++ xs) (all_same body h.2 plan level inside s d) ∙ sym (walk.of_if test body s d)
       term_same (ElseIf test body) h plan level inside s d =
-          walk.of_else_if test (unswitched_all plan level inside body) s d ∙ ap (λ xs. W test s d ++ xs) (all_same body h.3 plan level inside s d) ∙ sym (walk.of_else_if test body s d)
+          walk.of_else_if test (unswitched_all plan level inside body) s d ∙ ap (λ xs. W test s d ++ xs) (all_same body h.2 plan level inside s d) ∙ sym (walk.of_else_if test body s d)
       term_same (Else body) h plan level inside s d = walk.of_else (unswitched_all plan level inside body) s d ∙ all_same body h plan level inside s d ∙ sym (walk.of_else body s d)
       term_same (While test body) h plan level inside s d =
           walk.of_while test (unswitched_all plan level false body) s d ∙ ap (λ xs. W test s d ++ xs) (all_same body h.2 plan level false s d) ∙ sym (walk.of_while test body s d)
@@ -218,31 +220,34 @@ module _ {A : Type 0} (walk : Walk A) where
           ∙ ap (λ xs. walk.method at name flags s d ++ xs) (all_same body h.2 (plan_of body) 0 false (declared_path name s) (with_declared (declared_path name s) (As (MethodObject flags)) d)) ∙ sym (walk.of_method at name flags body s d)
       term_same t h plan level inside s d = refl
 
-      chain_same : (cases : Trees) → AreFormedCases ⊥ Listed Symbols Switches cases → (plan : Plan) (level : ℕ) (s : AbsolutePath) (d : Declarations) → Ws (chain_of (links plan level cases (default_link plan level cases))) s d ≡ Ws cases s d
-      chain_same no_trees h plan level s d = refl
-      chain_same (tree (Case value body) cases) h plan level s d =
-          let o : Option Trees = links plan level cases (default_link plan level cases) in
+      links_same : (cases : Trees) → AreFormedCases ⊥ Listed Symbols Switches cases → (plan : Plan) (level : ℕ) (s : AbsolutePath) (d : Declarations) → Ws (links plan level cases (default_link plan level cases)) s d ≡ Ws cases s d
+      links_same no_trees h plan level s d = refl
+      links_same (tree (Case value body) cases) h plan level s d =
+          let rest : Trees = links plan level cases (default_link plan level cases) in
           let made : Trees = unswitched_all plan (suc level) true body in
           let test : Tree = case_test (value_local plan level) value in
-          let first : W (If test made) s d ≡ W (Case value body) s d
-          = walk.of_if test made s d ∙ both (W test s d) (Ws made s d) (W value s d) (Ws body s d) (test_quiet (nth plan.free level) value h.0 s d ∙ sym (value_quiet value h.0 s d)) (all_same body h.1 plan (suc level) true s d) ∙ sym (walk.of_case value body s d) in
-          let others : Ws (else_of o) s (declare_all made s d) ≡ Ws cases s (declare_all body s d)
-          = else_walks o s (declare_all made s d) ∙ chain_same cases h.2 plan level s (declare_all made s d) ∙ ap (Ws cases s) (D body h.1 plan (suc level) true s d) in
-          walk.some (If test made) (else_of o) s d ∙ both (W (If test made) s d) (Ws (else_of o) s (declare_all made s d)) (W (Case value body) s d) (Ws cases s (declare_all body s d)) first others
+          let first : W (ElseIf test made) s d ≡ W (Case value body) s d
+          = walk.of_else_if test made s d ∙ both (W test s d) (Ws made s d) (W value s d) (Ws body s d) (test_quiet (nth plan.free level) value h.0 s d ∙ sym (value_quiet value h.0 s d)) (all_same body h.1 plan (suc level) true s d) ∙ sym (walk.of_case value body s d) in
+          let others : Ws rest s (declare_all made s d) ≡ Ws cases s (declare_all body s d)
+          = links_same cases h.2 plan level s (declare_all made s d) ∙ ap (Ws cases s) (D body h.1 plan (suc level) true s d) in
+          walk.some (ElseIf test made) rest s d ∙ both (W (ElseIf test made) s d) (Ws rest s (declare_all made s d)) (W (Case value body) s d) (Ws cases s (declare_all body s d)) first others
           ∙ sym (walk.some (Case value body) cases s d)
-      chain_same (tree (Default body) no_trees) h plan level s d =
-          all_same body h plan (suc level) true s d ∙ sym (right_nil (Ws body s d))
-          ∙ sym (walk.some (Default body) no_trees s d ∙ both (W (Default body) s d) (Ws no_trees s (declare_all body s d)) (Ws body s d) [] (walk.of_default body s d) (walk.none s (declare_all body s d)))
-      chain_same (tree (Default body) (tree t ts)) h plan level s d = absurd h
-      chain_same (tree t cases) h plan level s d = absurd h
+      links_same (tree (Default body) no_trees) h plan level s d =
+          let made : Trees = unswitched_all plan (suc level) true body in
+          walk.some (Else made) no_trees s d
+          ∙ both (W (Else made) s d) (Ws no_trees s (declare_all made s d)) (W (Default body) s d) (Ws no_trees s (declare_all body s d))
+          (walk.of_else made s d ∙ all_same body h plan (suc level) true s d ∙ sym (walk.of_default body s d)) (walk.none s (declare_all made s d) ∙ sym (walk.none s (declare_all body s d)))
+          ∙ sym (walk.some (Default body) no_trees s d)
+      links_same (tree (Default body) (tree t ts)) h plan level s d = absurd h
+      links_same (tree t cases) h plan level s d = absurd h
 
       pub all_same : (ts : Trees) → AreFormed ⊥ Listed Symbols Switches ts → (plan : Plan) (level : ℕ) (inside : Bool) (s : AbsolutePath) (d : Declarations) → Ws (unswitched_all plan level inside ts) s d ≡ Ws ts s d
       all_same no_trees h plan level inside s d = refl
       all_same (tree (Switch value cases) rest) h plan level inside s d =
-          let chain : Trees = chain_of (links plan level cases (default_link plan level cases)) in
+          let chain : Trees = opened (links plan level cases (default_link plan level cases)) in
           let made : Trees = unswitched_all plan level inside rest in
           let first : W value s d ++ Ws chain s d ≡ W (Switch value cases) s d
-          = ap (λ xs. W value s d ++ xs) (chain_same cases h.0.3 plan level s d) ∙ sym (walk.of_switch value cases s d) in
+          = ap (λ xs. W value s d ++ xs) (opened_walks (links plan level cases (default_link plan level cases)) s d ∙ links_same cases h.0.3 plan level s d) ∙ sym (walk.of_switch value cases s d) in
           let others : Ws made s (declare_all chain s d) ≡ Ws rest s (declare_all cases s d)
           = all_same rest h.2 plan level inside s (declare_all chain s d) ∙ ap (Ws rest s) (chain_declares cases (ends_with Listed Symbols Switches cases h.0.3) plan level s d) in
           loop_terms_walk plan (have_continue cases) inside value (nth plan.free level) chain made s d

@@ -41,8 +41,8 @@ pub fn are_unswitchable()
     ensures { (program : Trees) → AreFormed ⊥ (AreItems 0) ⊥ (Unit {0}) program → HaveLocals program → IsUnswitchable program }
 {}
 
-/// Where it and its methods have Locals enough, they have so with its operators named and its ElseIfs nested, and with
-/// its constants folded, where that is asked for.
+/// Where it and its methods have Locals enough, they have so with its operators named, and with its constants folded, where
+/// that is asked for.
 pub fn locals_stay()
     ensures named { (program : Trees) → HaveLocals program → HaveLocals (named_all program) }
     ensures folded { (fold : Bool) (width : Width) (program : Trees) → HaveLocals program → HaveLocals (folded_where fold width program) }

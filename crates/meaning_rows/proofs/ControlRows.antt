@@ -13,7 +13,7 @@ use Rattle.acpi_state.specs.Sessions.{Report, Request}
 use Rattle.asl_tree.specs.Tree.{Tree, Integer, InSlot, Omitted, Use, Call, Apply, Name, Return, Method, If, While, Break, Continue, Trees, no_trees, tree}
 use Rattle.asl_meaning.specs.Declarations.{known_of}
 use Rattle.asl_meaning.specs.SourceSession.{source_session}
-use Rattle.aml_meaning.specs.Encoded.{encoded_all}
+use Rattle.aml_meaning.specs.Encoded.{encoded_terms}
 use Rattle.aml_code.specs.Header.{table_bytes}
 use Rattle.aml_meaning.specs.ByteSession.{byte_session}
 use Rattle.aml_meaning.specs.Codes.{code_front}
@@ -39,7 +39,7 @@ recursive =
     (list_of (If (is_equal (InSlot (ArgSlot 0)) (Integer 0)) (list_of (Return (Integer 0) ∷ []))
     ∷ Return (Call at (one_segment 0x52) (list_of (Apply (Plain.Number IntOp.Subtract) (list_of (InSlot (ArgSlot 0) ∷ Integer 1 ∷ [])) (list_of (Omitted ∷ [])) ∷ []))) ∷ [])) ∷ [])
 
-recursive_bytes : encoded_all W64 true recursive
+recursive_bytes : encoded_terms W64 true recursive
     ≡ 0x14 ∷ 0x16 ∷ 0x52 ∷ 0x5F ∷ 0x5F ∷ 0x5F ∷ 0x01 ∷ 0xA0 ∷ 0x06 ∷ 0x93 ∷ 0x68 ∷ 0x00 ∷ 0xA4 ∷ 0x00 ∷ 0xA4 ∷ 0x52 ∷ 0x5F ∷ 0x5F ∷ 0x5F ∷ 0x74 ∷ 0x68 ∷ 0x01 ∷ 0x00 ∷ []
 recursive_bytes = refl
 
@@ -50,7 +50,7 @@ abbrev call_with : ℕ → List Value → List Request
 call_with letter args = record { path = (letter ∷ 0x5F ∷ 0x5F ∷ 0x5F ∷ []) ∷ []; args = args } ∷ []
 
 abbrev by_bytes : Trees → ℕ → List Request → List Report
-by_bytes terms n calls = byte_session (table_bytes fields (encoded_all W64 true terms)) [] n [] calls
+by_bytes terms n calls = byte_session (table_bytes fields (encoded_terms W64 true terms)) [] n [] calls
 
 abbrev by_source : Trees → ℕ → List Request → List Report
 by_source terms n calls = source_session W64 (known_of terms) terms [] n [] calls
@@ -84,7 +84,7 @@ nested =
     ∷ store (local 0) (local 1) ∷ []))
     ∷ Return (local 1) ∷ [])) ∷ [])
 
-nested_bytes : encoded_all W64 true nested
+nested_bytes : encoded_terms W64 true nested
     ≡ 0x14 ∷ 0x30 ∷ 0x57 ∷ 0x5F ∷ 0x5F ∷ 0x5F ∷ 0x00 ∷ 0x70 ∷ 0x00 ∷ 0x60 ∷ 0xA2 ∷ 0x24 ∷ 0x95 ∷ 0x60 ∷ 0x0A ∷ 0x02 ∷ 0x75 ∷ 0x60 ∷ 0x70 ∷ 0x00 ∷ 0x63 ∷ 0xA2 ∷ 0x0F ∷ 0x01 ∷ 0x70 ∷ 0x60 ∷ 0x62 ∷ 0xA0 ∷ 0x08
     ∷ 0x93 ∷ 0x62 ∷ 0x01 ∷ 0x70 ∷ 0x01 ∷ 0x63 ∷ 0xA5 ∷ 0xA5 ∷ 0xA0 ∷ 0x06 ∷ 0x63 ∷ 0x70 ∷ 0x00 ∷ 0x63 ∷ 0x9F ∷ 0x70 ∷ 0x60 ∷ 0x61 ∷ 0xA4 ∷ 0x61 ∷ []
 nested_bytes = refl

@@ -16,7 +16,7 @@ use Rattle.asl_tree.specs.Tree.{At, UnitName, Tree, Integer, Use, Apply, Return,
 use Rattle.asl_meaning.specs.Declarations.{known_of}
 use Rattle.asl_meaning.specs.SourceSession.{source_session}
 use Rattle.aml_code.specs.Encoding.{bit_count_bytes}
-use Rattle.aml_meaning.specs.Encoded.{encoded, encoded_all}
+use Rattle.aml_meaning.specs.Encoded.{encoded, encoded_terms}
 use Rattle.aml_code.specs.Header.{HeaderFields, table_bytes}
 use Rattle.aml_meaning.specs.ByteSession.{byte_session}
 use Rattle.aml_meaning.specs.Codes.{code_front}
@@ -59,7 +59,7 @@ abbrev fields : HeaderFields
 fields = record { signature = codes "SSDT"; revision = 2; oem_id = codes "OEMX00"; table_id = codes "TABLE001"; oem_revision = 1 }
 
 abbrev table : Trees → List ℕ
-table terms = table_bytes fields (encoded_all W64 true terms)
+table terms = table_bytes fields (encoded_terms W64 true terms)
 
 abbrev call : List Request
 call = record { path = at 0x4D; args = [] } ∷ []

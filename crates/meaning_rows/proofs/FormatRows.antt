@@ -15,7 +15,7 @@ use Rattle.acpi_state.specs.Sessions.{Report, Request}
 use Rattle.asl_tree.specs.Tree.{Tree, Integer, InSlot, Debug, If, Return, For, Print, Switch, Case, Continue, Operated, Assigned, Trees}
 use Rattle.asl_meaning.specs.Declarations.{known_of}
 use Rattle.asl_meaning.specs.SourceSession.{source_session}
-use Rattle.aml_meaning.specs.Encoded.{encoded_all}
+use Rattle.aml_meaning.specs.Encoded.{encoded_terms}
 use Rattle.aml_meaning.specs.Codes.{code_front}
 use Rattle.aml_meaning.specs.ByteSession.{byte_session}
 use Rattle.aml_code.specs.Header.{HeaderFields, table_bytes}
@@ -31,7 +31,7 @@ abbrev core_from : Trees → Trees
 core_from program = core_of false (named_all (without_switches (formed_all program)))
 
 abbrev bytes_of : Width → Trees → List ℕ
-bytes_of width program = encoded_all width true (core_from program)
+bytes_of width program = encoded_terms width true (core_from program)
 
 abbrev of_source : Width → ℕ → List Request → Trees → List Report
 of_source width n calls program = source_session width (known_of program) program [] n [] calls

@@ -24,3 +24,16 @@ mod TypeRows
 mod PathRows
 mod UnitRows
 mod TableRows
+mod LoopRows
+mod BranchRows
+mod PrintRows
+mod BusRows
+mod BufferUnitRows
+mod RegionRows
+mod BufferFieldRows
+mod IntegerRows
+mod DataRows
+mod ReferenceRows
+mod OrderRows
+mod CallRows
+mod RunRows

@@ -15,7 +15,7 @@ use Rattle.asl_meaning.specs.SourceSession.{source_session}
 use Rattle.acpi_state.specs.Forms.{LocalSlot, ArgSlot}
 use Rattle.acpi_values.specs.declared.operator.DataOp.TheVariants as DataOp
 use Rattle.acpi_values.specs.declared.operator.Plain.TheVariants as Plain
-use Rattle.aml_meaning.specs.Encoded.{encoded_all}
+use Rattle.aml_meaning.specs.Encoded.{encoded_terms}
 use Rattle.aml_code.specs.Header.{table_bytes}
 use Rattle.aml_meaning.specs.ByteSession.{byte_session}
 use Rattle.aml_meaning.specs.Codes.{code_front}
@@ -41,7 +41,7 @@ calls_out =
 no_errors : name_errors calls_out ++ type_errors calls_out ≡ []
 no_errors = refl
 
-bytes : encoded_all W64 true (core_of false calls_out) ≡ 0x15 ∷ 0x45 ∷ 0x5F ∷ 0x5F ∷ 0x5F ∷ 0x08 ∷ 0x02 ∷ 0x14 ∷ 0x0E ∷ 0x4D ∷ 0x5F ∷ 0x5F ∷ 0x5F ∷ 0x00 ∷ 0xA4 ∷ 0x45 ∷ 0x5F ∷ 0x5F ∷ 0x5F ∷ 0x01 ∷ 0x0A ∷ 0x02 ∷ []
+bytes : encoded_terms W64 true (core_of false calls_out) ≡ 0x15 ∷ 0x45 ∷ 0x5F ∷ 0x5F ∷ 0x5F ∷ 0x08 ∷ 0x02 ∷ 0x14 ∷ 0x0E ∷ 0x4D ∷ 0x5F ∷ 0x5F ∷ 0x5F ∷ 0x00 ∷ 0xA4 ∷ 0x45 ∷ 0x5F ∷ 0x5F ∷ 0x5F ∷ 0x01 ∷ 0x0A ∷ 0x02 ∷ []
 bytes = refl
 
 abbrev pub results : List Report → List (Result Flow)
@@ -64,7 +64,7 @@ shadowed =
     tree (Name (at 1) (one 0x58) (Integer 5))
     (tree (Method (at 2) (one 0x4D) 0 (tree (Name (at 3) (one 0x58) (Integer 7)) (tree (Return (Use (at 4) (one 0x58))) no_trees))) no_trees)
 
-spelled_from_root : encoded_all W64 true (core_of false shadowed) ≡ 0x08 ∷ 0x58 ∷ 0x5F ∷ 0x5F ∷ 0x5F ∷ 0x0A ∷ 0x05 ∷ 0x14 ∷ 0x18 ∷ 0x4D ∷ 0x5F ∷ 0x5F ∷ 0x5F ∷ 0x00 ∷ 0x08 ∷ 0x58 ∷ 0x5F ∷ 0x5F ∷ 0x5F ∷ 0x0A ∷ 0x07 ∷ 0xA4 ∷ 0x5C ∷ 0x2E ∷ 0x4D ∷ 0x5F ∷ 0x5F ∷ 0x5F ∷ 0x58 ∷ 0x5F ∷ 0x5F ∷ 0x5F ∷ []
+spelled_from_root : encoded_terms W64 true (core_of false shadowed) ≡ 0x08 ∷ 0x58 ∷ 0x5F ∷ 0x5F ∷ 0x5F ∷ 0x0A ∷ 0x05 ∷ 0x14 ∷ 0x18 ∷ 0x4D ∷ 0x5F ∷ 0x5F ∷ 0x5F ∷ 0x00 ∷ 0x08 ∷ 0x58 ∷ 0x5F ∷ 0x5F ∷ 0x5F ∷ 0x0A ∷ 0x07 ∷ 0xA4 ∷ 0x5C ∷ 0x2E ∷ 0x4D ∷ 0x5F ∷ 0x5F ∷ 0x5F ∷ 0x58 ∷ 0x5F ∷ 0x5F ∷ 0x5F ∷ []
 spelled_from_root = refl
 
 returns_seven : run_it shadowed [] ≡ Done (Normal false) ∷ Done (Gives (Data (V.Integer 7))) ∷ []
@@ -107,7 +107,7 @@ called_unknown =
     tree (External (at 1) (at 2) (one 0x55) 0 None)
     (tree (Method (at 3) (one 0x4D) 0 (tree (Return (Call (at 4) (one 0x55) (tree (Integer 7) no_trees))) no_trees)) no_trees)
 
-as_method : encoded_all W64 true (core_of false called_unknown) ≡ 0x15 ∷ 0x55 ∷ 0x5F ∷ 0x5F ∷ 0x5F ∷ 0x08 ∷ 0x01 ∷ 0x14 ∷ 0x0D ∷ 0x4D ∷ 0x5F ∷ 0x5F ∷ 0x5F ∷ 0x00 ∷ 0xA4 ∷ 0x55 ∷ 0x5F ∷ 0x5F ∷ 0x5F ∷ 0x0A ∷ 0x07 ∷ []
+as_method : encoded_terms W64 true (core_of false called_unknown) ≡ 0x15 ∷ 0x55 ∷ 0x5F ∷ 0x5F ∷ 0x5F ∷ 0x08 ∷ 0x01 ∷ 0x14 ∷ 0x0D ∷ 0x4D ∷ 0x5F ∷ 0x5F ∷ 0x5F ∷ 0x00 ∷ 0xA4 ∷ 0x55 ∷ 0x5F ∷ 0x5F ∷ 0x5F ∷ 0x0A ∷ 0x07 ∷ []
 as_method = refl
 
 -- Name (X, 5)  Method (M, 1) {If (Arg0) {Name (X, 7)} Return (X)}
@@ -116,7 +116,7 @@ perhaps_shadowed =
     tree (Name (at 1) (one 0x58) (Integer 5))
     (tree (Method (at 2) (one 0x4D) 1 (tree (If (InSlot (ArgSlot 0)) (tree (Name (at 3) (one 0x58) (Integer 7)) no_trees)) (tree (Return (Use (at 4) (one 0x58))) no_trees))) no_trees)
 
-perhaps_bytes : encoded_all W64 true (core_of false perhaps_shadowed)
+perhaps_bytes : encoded_terms W64 true (core_of false perhaps_shadowed)
     ≡ 0x08 ∷ 0x58 ∷ 0x5F ∷ 0x5F ∷ 0x5F ∷ 0x0A ∷ 0x05 ∷ 0x14 ∷ 0x1B ∷ 0x4D ∷ 0x5F ∷ 0x5F ∷ 0x5F ∷ 0x01 ∷ 0xA0 ∷ 0x09 ∷ 0x68 ∷ 0x08 ∷ 0x58 ∷ 0x5F ∷ 0x5F ∷ 0x5F ∷ 0x0A ∷ 0x07
     ∷ 0xA4 ∷ 0x5C ∷ 0x2E ∷ 0x4D ∷ 0x5F ∷ 0x5F ∷ 0x5F ∷ 0x58 ∷ 0x5F ∷ 0x5F ∷ 0x5F ∷ []
 perhaps_bytes = refl
@@ -127,7 +127,7 @@ calls_of_both = record { path = seg 0x4D ∷ []; args = Data (V.Integer 0) ∷ [
 perhaps : results (source_session W64 (known_of perhaps_shadowed) perhaps_shadowed [] 1 [] calls_of_both) ≡ Done (Normal false) ∷ Stopped (Faulted F.NotFound) ∷ Done (Gives (Data (V.Integer 7))) ∷ []
 perhaps = refl
 
-perhaps_same : byte_session (table_bytes fields (encoded_all W64 true (core_of false perhaps_shadowed))) [] 1 [] calls_of_both ≡ source_session W64 (known_of perhaps_shadowed) perhaps_shadowed [] 1 [] calls_of_both
+perhaps_same : byte_session (table_bytes fields (encoded_terms W64 true (core_of false perhaps_shadowed))) [] 1 [] calls_of_both ≡ source_session W64 (known_of perhaps_shadowed) perhaps_shadowed [] 1 [] calls_of_both
 unfolding code_front
 perhaps_same = refl
 

@@ -24,8 +24,10 @@ use Rattle.asl_tree.specs.Tree.{UnitName, Tree, InSlot, Use, Apply, Operated, Tr
 use Rattle.asl_meaning.specs.Declarations.{known_of}
 use Rattle.asl_meaning.specs.SourceSession.{source_session}
 use Rattle.asl_lower.specs.Nodes.{named_all}
-use Rattle.aml_code.specs.Header.{table_bytes}
-use Rattle.aml_meaning.specs.Encoded.{encoded_all}
+use Rattle.asl_prints.specs.Forms.{formed_all}
+use Rattle.hidden_locals.specs.Switches.{without_switches}
+use Rattle.aml_code.specs.Header.{HeaderFields, table_bytes}
+use Rattle.aml_meaning.specs.Encoded.{encoded_terms}
 use Rattle.aml_meaning.specs.ByteSession.{byte_session}
 use Rattle.named_sessions.specs.Core.{core_of}
 use Rattle.meaning_rows.proofs.Rows.{at, fields}
@@ -129,9 +131,13 @@ abbrev pub terms : List Tree → Trees
 terms [] = no_trees
 terms (t ∷ ts) = tree t (terms ts)
 
+-- the table of a source: what stands for its forms and its Switches, its symbols named, its names spelled
+abbrev pub written_whole : Width → HeaderFields → Trees → List ℕ
+written_whole width header source = table_bytes header (encoded_terms width true (core_of false (named_all (without_switches (formed_all source)))))
+
 -- the table of a source of revision 2
 abbrev pub written : Trees → List ℕ
-written source = table_bytes fields (encoded_all W64 true (core_of false (named_all source)))
+written source = table_bytes fields (encoded_terms W64 true (core_of false (named_all source)))
 
 abbrev pub path : Bool → ℕ → List NameSeg → Path
 path root up segs = record { root = root; up = up; segs = segs }

@@ -22,7 +22,7 @@ use Rattle.asl_tree.specs.FieldItems.{UnitItem, SkipItem, OffsetItem}
 use Rattle.asl_tree.specs.Tree.{At, UnitName, Tree, Integer, Constant, String, InSlot, Debug as DebugTerm, Omitted, Raw, Use, Call, Apply, Buffer, Package, CondRefOf, Return, Name, Alias, External, Method, Mutex, Event as EventTerm, Container', If, Else, While, Break, OperationRegion, Field, IndexField, BankField, CreateField, Trees, no_trees, tree}
 use Rattle.asl_meaning.specs.Declarations.{known_of, externals}
 use Rattle.asl_meaning.specs.SourceSession.{source_session}
-use Rattle.aml_meaning.specs.Encoded.{encoded_all}
+use Rattle.aml_meaning.specs.Encoded.{encoded_terms}
 use Rattle.aml_code.specs.Header.{table_bytes}
 use Rattle.acpi_names.specs.Errors.{name_errors, type_errors}
 use Rattle.named_sessions.specs.Core.{core_of}
@@ -123,7 +123,7 @@ p0 =
 e0 : name_errors p0 ++ type_errors p0 ≡ []
 e0 = refl
 
-b0 : encoded_all W64 false (core_of false p0)
+b0 : encoded_terms W64 false (core_of false p0)
     ≡ 21 ∷ 69 ∷ 48 ∷ 95 ∷ 95 ∷ 1 ∷ 0 ∷ 8 ∷ 88 ∷ 95 ∷ 95 ∷ 95 ∷ 10 ∷ 0 ∷ 8 ∷ 89 ∷ 95 ∷ 95 ∷ 95 ∷ 18 ∷ 2 ∷ 0 ∷ 8 ∷ 90 ∷ 95 ∷ 95 ∷ 95 ∷ 10 ∷ 0
     ∷ 20 ∷ 70 ∷ 8 ∷ 77 ∷ 48 ∷ 95 ∷ 95 ∷ 1 ∷ 112 ∷ 13 ∷ 50 ∷ 0 ∷ 96 ∷ 112 ∷ 10 ∷ 1 ∷ 97 ∷ 112 ∷ 17 ∷ 5 ∷ 10 ∷ 4 ∷ 112 ∷ 159 ∷ 98 ∷ 112
     ∷ 115 ∷ 115 ∷ 115 ∷ 13 ∷ 97 ∷ 0 ∷ 128 ∷ 11 ∷ 14 ∷ 1 ∷ 0 ∷ 0 ∷ 13 ∷ 66 ∷ 37 ∷ 0 ∷ 0 ∷ 131 ∷ 136 ∷ 94 ∷ 88 ∷ 95 ∷ 95 ∷ 95 ∷ 10 ∷ 1 ∷ 0
@@ -223,7 +223,7 @@ p1 =
 e1 : name_errors p1 ++ type_errors p1 ≡ []
 e1 = refl
 
-b1 : encoded_all W64 true (core_of false p1)
+b1 : encoded_terms W64 true (core_of false p1)
     ≡ 21 ∷ 69 ∷ 48 ∷ 95 ∷ 95 ∷ 1 ∷ 0 ∷ 21 ∷ 69 ∷ 49 ∷ 95 ∷ 95 ∷ 8 ∷ 1 ∷ 8 ∷ 88 ∷ 95 ∷ 95 ∷ 95 ∷ 0 ∷ 8 ∷ 89 ∷ 95 ∷ 95 ∷ 95 ∷ 1 ∷ 8 ∷ 90 ∷ 95
     ∷ 95 ∷ 95 ∷ 11 ∷ 22 ∷ 1 ∷ 8 ∷ 87 ∷ 95 ∷ 95 ∷ 95 ∷ 10 ∷ 98 ∷ 20 ∷ 65 ∷ 8 ∷ 77 ∷ 48 ∷ 95 ∷ 95 ∷ 1 ∷ 112 ∷ 66 ∷ 75 ∷ 95 ∷ 95 ∷ 96 ∷ 112
     ∷ 12 ∷ 255 ∷ 255 ∷ 255 ∷ 255 ∷ 97 ∷ 112 ∷ 0 ∷ 98 ∷ 8 ∷ 84 ∷ 48 ∷ 95 ∷ 95 ∷ 91 ∷ 35 ∷ 77 ∷ 84 ∷ 88 ∷ 95 ∷ 10 ∷ 0 ∷ 8 ∷ 89 ∷ 95 ∷ 95
@@ -327,7 +327,7 @@ p2 =
 e2 : name_errors p2 ++ type_errors p2 ≡ []
 e2 = refl
 
-b2 : encoded_all W64 true (core_of false p2)
+b2 : encoded_terms W64 true (core_of false p2)
     ≡ 21 ∷ 69 ∷ 48 ∷ 95 ∷ 95 ∷ 1 ∷ 0 ∷ 8 ∷ 88 ∷ 95 ∷ 95 ∷ 95 ∷ 12 ∷ 255 ∷ 255 ∷ 255 ∷ 255 ∷ 8 ∷ 89 ∷ 95 ∷ 95 ∷ 95 ∷ 1 ∷ 8 ∷ 90 ∷ 95 ∷ 95
     ∷ 95 ∷ 1 ∷ 20 ∷ 68 ∷ 6 ∷ 77 ∷ 48 ∷ 95 ∷ 95 ∷ 1 ∷ 112 ∷ 96 ∷ 96 ∷ 112 ∷ 1 ∷ 97 ∷ 112 ∷ 0 ∷ 98 ∷ 112 ∷ 117 ∷ 96 ∷ 104 ∷ 162 ∷ 7 ∷ 1
     ∷ 112 ∷ 0 ∷ 99 ∷ 165 ∷ 165 ∷ 140 ∷ 17 ∷ 6 ∷ 10 ∷ 8 ∷ 1 ∷ 2 ∷ 3 ∷ 0 ∷ 66 ∷ 48 ∷ 95 ∷ 95 ∷ 112 ∷ 0 ∷ 98 ∷ 162 ∷ 5 ∷ 149 ∷ 117 ∷ 98 ∷ 1
@@ -387,7 +387,7 @@ p3 =
 e3 : name_errors p3 ++ type_errors p3 ≡ []
 e3 = refl
 
-b3 : encoded_all W64 false (core_of false p3)
+b3 : encoded_terms W64 false (core_of false p3)
     ≡ 21 ∷ 69 ∷ 48 ∷ 95 ∷ 95 ∷ 1 ∷ 0 ∷ 21 ∷ 69 ∷ 49 ∷ 95 ∷ 95 ∷ 8 ∷ 1 ∷ 8 ∷ 88 ∷ 95 ∷ 95 ∷ 95 ∷ 0 ∷ 8 ∷ 89 ∷ 95 ∷ 95 ∷ 95 ∷ 18 ∷ 11 ∷ 2 ∷ 18
     ∷ 6 ∷ 2 ∷ 10 ∷ 1 ∷ 10 ∷ 2 ∷ 13 ∷ 0 ∷ 8 ∷ 90 ∷ 95 ∷ 95 ∷ 95 ∷ 13 ∷ 122 ∷ 122 ∷ 0 ∷ 20 ∷ 57 ∷ 77 ∷ 48 ∷ 95 ∷ 95 ∷ 0 ∷ 112 ∷ 10 ∷ 0
     ∷ 96 ∷ 112 ∷ 10 ∷ 3 ∷ 97 ∷ 112 ∷ 10 ∷ 0 ∷ 98 ∷ 112 ∷ 255 ∷ 99 ∷ 8 ∷ 84 ∷ 48 ∷ 95 ∷ 95 ∷ 112 ∷ 12 ∷ 255 ∷ 255 ∷ 255 ∷ 255 ∷ 92 ∷ 47
@@ -485,7 +485,7 @@ p4 =
 e4 : name_errors p4 ++ type_errors p4 ≡ []
 e4 = refl
 
-b4 : encoded_all W64 true (core_of false p4)
+b4 : encoded_terms W64 true (core_of false p4)
     ≡ 91 ∷ 134 ∷ 17 ∷ 73 ∷ 88 ∷ 95 ∷ 95 ∷ 68 ∷ 84 ∷ 95 ∷ 95 ∷ 1 ∷ 0 ∷ 5 ∷ 70 ∷ 51 ∷ 95 ∷ 95 ∷ 9 ∷ 8 ∷ 88 ∷ 95 ∷ 95 ∷ 95 ∷ 18 ∷ 2 ∷ 1 ∷ 20
     ∷ 69 ∷ 11 ∷ 77 ∷ 48 ∷ 95 ∷ 95 ∷ 2 ∷ 112 ∷ 113 ∷ 104 ∷ 96 ∷ 112 ∷ 12 ∷ 255 ∷ 255 ∷ 255 ∷ 255 ∷ 97 ∷ 112 ∷ 0 ∷ 98 ∷ 162 ∷ 68 ∷ 8 ∷ 1
     ∷ 112 ∷ 97 ∷ 99 ∷ 160 ∷ 77 ∷ 4 ∷ 147 ∷ 99 ∷ 17 ∷ 3 ∷ 1 ∷ 1 ∷ 162 ∷ 58 ∷ 1 ∷ 112 ∷ 142 ∷ 94 ∷ 46 ∷ 68 ∷ 48 ∷ 95 ∷ 95 ∷ 65 ∷ 49 ∷ 95
@@ -570,7 +570,7 @@ p5 =
 e5 : name_errors p5 ++ type_errors p5 ≡ []
 e5 = refl
 
-b5 : encoded_all W32 true (core_of false p5)
+b5 : encoded_terms W32 true (core_of false p5)
     ≡ 21 ∷ 69 ∷ 48 ∷ 95 ∷ 95 ∷ 1 ∷ 0 ∷ 8 ∷ 88 ∷ 95 ∷ 95 ∷ 95 ∷ 10 ∷ 255 ∷ 8 ∷ 89 ∷ 95 ∷ 95 ∷ 95 ∷ 10 ∷ 30 ∷ 8 ∷ 90 ∷ 95 ∷ 95 ∷ 95 ∷ 0 ∷ 8
     ∷ 87 ∷ 95 ∷ 95 ∷ 95 ∷ 255 ∷ 20 ∷ 41 ∷ 77 ∷ 48 ∷ 95 ∷ 95 ∷ 2 ∷ 112 ∷ 1 ∷ 96 ∷ 112 ∷ 1 ∷ 97 ∷ 112 ∷ 1 ∷ 98 ∷ 112 ∷ 0 ∷ 99 ∷ 162 ∷ 3
     ∷ 10 ∷ 22 ∷ 112 ∷ 66 ∷ 75 ∷ 95 ∷ 95 ∷ 70 ∷ 52 ∷ 95 ∷ 95 ∷ 8 ∷ 89 ∷ 95 ∷ 95 ∷ 95 ∷ 10 ∷ 3 ∷ 164 ∷ 146 ∷ 105 ∷ 91 ∷ 130 ∷ 70 ∷ 8 ∷ 68

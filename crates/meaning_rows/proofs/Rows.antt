@@ -15,7 +15,7 @@ use Rattle.asl_meaning.specs.Declarations.{known_of}
 use Rattle.asl_meaning.specs.SourceSession.{source_session}
 use Rattle.aml_code.specs.Fronts.{name_front, package_length_front}
 use Rattle.aml_code.specs.Encoding.{package_length_bytes}
-use Rattle.aml_meaning.specs.Encoded.{encoded_all}
+use Rattle.aml_meaning.specs.Encoded.{encoded_terms}
 use Rattle.aml_code.specs.Header.{HeaderFields, table_bytes}
 use Rattle.aml_meaning.specs.ByteSession.{byte_session}
 use Rattle.aml_meaning.specs.Codes.{code_front}
@@ -31,7 +31,7 @@ abbrev pub fields : HeaderFields
 fields = record { signature = codes "SSDT"; revision = 2; oem_id = codes "OEMX00"; table_id = codes "TABLE001"; oem_revision = 1 }
 
 -- Name (X, 5)
-one_name : table_bytes fields (encoded_all W64 true (tree (Name at (one_segment 0x58) (Integer 5)) no_trees))
+one_name : table_bytes fields (encoded_terms W64 true (tree (Name at (one_segment 0x58) (Integer 5)) no_trees))
     ≡ 0x53 ∷ 0x53 ∷ 0x44 ∷ 0x54 ∷ 0x2B ∷ 0x00 ∷ 0x00 ∷ 0x00 ∷ 0x02 ∷ 0xF8 ∷ 0x4F ∷ 0x45 ∷ 0x4D ∷ 0x58 ∷ 0x30 ∷ 0x30 ∷ 0x54 ∷ 0x41 ∷ 0x42 ∷ 0x4C ∷ 0x45 ∷ 0x30
     ∷ 0x30 ∷ 0x31 ∷ 0x01 ∷ 0x00 ∷ 0x00 ∷ 0x00 ∷ 0x49 ∷ 0x4E ∷ 0x54 ∷ 0x4C ∷ 0x05 ∷ 0x01 ∷ 0x21 ∷ 0x20 ∷ 0x08 ∷ 0x58 ∷ 0x5F ∷ 0x5F ∷ 0x5F ∷ 0x0A ∷ 0x05 ∷ []
 one_name = refl
@@ -40,13 +40,13 @@ one_name = refl
 abbrev pub narrow_fields : HeaderFields
 narrow_fields = record { signature = codes "SSDT"; revision = 1; oem_id = codes "OEMX00"; table_id = codes "TABLE001"; oem_revision = 1 }
 
-cut_name : table_bytes narrow_fields (encoded_all W32 true (tree (Name at (one_segment 0x58) (Integer 0x1FFFFFFFF)) no_trees))
+cut_name : table_bytes narrow_fields (encoded_terms W32 true (tree (Name at (one_segment 0x58) (Integer 0x1FFFFFFFF)) no_trees))
     ≡ 0x53 ∷ 0x53 ∷ 0x44 ∷ 0x54 ∷ 0x2A ∷ 0x00 ∷ 0x00 ∷ 0x00 ∷ 0x01 ∷ 0x0A ∷ 0x4F ∷ 0x45 ∷ 0x4D ∷ 0x58 ∷ 0x30 ∷ 0x30 ∷ 0x54 ∷ 0x41 ∷ 0x42 ∷ 0x4C ∷ 0x45 ∷ 0x30
     ∷ 0x30 ∷ 0x31 ∷ 0x01 ∷ 0x00 ∷ 0x00 ∷ 0x00 ∷ 0x49 ∷ 0x4E ∷ 0x54 ∷ 0x4C ∷ 0x05 ∷ 0x01 ∷ 0x21 ∷ 0x20 ∷ 0x08 ∷ 0x58 ∷ 0x5F ∷ 0x5F ∷ 0x5F ∷ 0xFF ∷ []
 cut_name = refl
 
 -- Method (M, 0) {Return (1)}
-one_method : encoded_all W64 true (tree (Method at (one_segment 0x4D) 0 (tree (Return (Integer 1)) no_trees)) no_trees) ≡ 0x14 ∷ 0x08 ∷ 0x4D ∷ 0x5F ∷ 0x5F ∷ 0x5F ∷ 0x00 ∷ 0xA4 ∷ 0x01 ∷ []
+one_method : encoded_terms W64 true (tree (Method at (one_segment 0x4D) 0 (tree (Return (Integer 1)) no_trees)) no_trees) ≡ 0x14 ∷ 0x08 ∷ 0x4D ∷ 0x5F ∷ 0x5F ∷ 0x5F ∷ 0x00 ∷ 0xA4 ∷ 0x01 ∷ []
 one_method = refl
 
 lengths : package_length_bytes 62 ++ package_length_bytes 63 ++ package_length_bytes 4093 ++ package_length_bytes 4094 ≡ 0x3F ∷ 0x41 ∷ 0x04 ∷ 0x4F ∷ 0xFF ∷ 0x81 ∷ 0x00 ∷ 0x01 ∷ []
@@ -83,7 +83,7 @@ results [] = []
 results (r ∷ rs) = r.result ∷ results rs
 
 abbrev table : List ℕ
-table = table_bytes fields (encoded_all W64 true block)
+table = table_bytes fields (encoded_terms W64 true block)
 
 same_runs : byte_session table [] 1 (Data (V.Integer 9) ∷ []) requests ≡ source_session W64 (known_of block) block [] 1 (Data (V.Integer 9) ∷ []) requests
 unfolding code_front
@@ -102,15 +102,15 @@ abbrev sum : List Request
 sum = record { path = (0x4D ∷ 0x5F ∷ 0x5F ∷ 0x5F ∷ []) ∷ []; args = [] } ∷ []
 
 -- in a table of revision 1 the literals and their sum are taken modulo 2 ^ 32
-narrow_sum : results (byte_session (table_bytes narrow_fields (encoded_all W32 true sums)) [] 1 [] sum) ≡ Done (Normal false) ∷ Done (Gives (Data (V.Integer 1))) ∷ []
+narrow_sum : results (byte_session (table_bytes narrow_fields (encoded_terms W32 true sums)) [] 1 [] sum) ≡ Done (Normal false) ∷ Done (Gives (Data (V.Integer 1))) ∷ []
 unfolding code_front
 narrow_sum = refl
 
-narrow_same : byte_session (table_bytes narrow_fields (encoded_all W32 true sums)) [] 1 [] sum ≡ source_session W32 (known_of sums) sums [] 1 [] sum
+narrow_same : byte_session (table_bytes narrow_fields (encoded_terms W32 true sums)) [] 1 [] sum ≡ source_session W32 (known_of sums) sums [] 1 [] sum
 unfolding code_front
 narrow_same = refl
 
 -- and in one of revision 2 modulo 2 ^ 64
-wide_sum : results (byte_session (table_bytes fields (encoded_all W64 true sums)) [] 1 [] sum) ≡ Done (Normal false) ∷ Done (Gives (Data (V.Integer 0x300000001))) ∷ []
+wide_sum : results (byte_session (table_bytes fields (encoded_terms W64 true sums)) [] 1 [] sum) ≡ Done (Normal false) ∷ Done (Gives (Data (V.Integer 0x300000001))) ∷ []
 unfolding code_front
 wide_sum = refl

@@ -19,7 +19,7 @@ use Rattle.asl_tree.specs.FieldItems.{FieldItem, UnitItem, OffsetItem, AccessIte
 use Rattle.asl_tree.specs.Tree.{At, UnitName, Tree, Integer, InSlot, Omitted, Use, Apply, Assigned, Name, Alias, External, Return, Method, OperationRegion, Field, BankField, Trees, no_trees, tree}
 use Rattle.asl_meaning.specs.Declarations.{known_of}
 use Rattle.asl_meaning.specs.SourceSession.{source_session}
-use Rattle.aml_meaning.specs.Encoded.{encoded, encoded_all}
+use Rattle.aml_meaning.specs.Encoded.{encoded, encoded_terms}
 use Rattle.aml_code.specs.Header.{HeaderFields, table_bytes}
 use Rattle.aml_meaning.specs.ByteSession.{byte_session}
 use Rattle.aml_meaning.specs.Codes.{code_front}
@@ -47,7 +47,7 @@ abbrev fields : HeaderFields
 fields = record { signature = codes "SSDT"; revision = 2; oem_id = codes "OEMX00"; table_id = codes "TABLE001"; oem_revision = 1 }
 
 abbrev table : Trees → List ℕ
-table terms = table_bytes fields (encoded_all W64 true terms)
+table terms = table_bytes fields (encoded_terms W64 true terms)
 
 abbrev call : List Request
 call = record { path = at (segment 0x4D); args = [] } ∷ []

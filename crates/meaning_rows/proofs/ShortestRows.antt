@@ -12,7 +12,7 @@ use Rattle.asl_meaning.specs.Declarations.{known_of}
 use Rattle.asl_meaning.specs.SourceSession.{source_session}
 use Rattle.aml_code.specs.Header.{table_bytes}
 use Rattle.aml_meaning.specs.Codes.{code_front}
-use Rattle.aml_meaning.specs.Encoded.{encoded_all}
+use Rattle.aml_meaning.specs.Encoded.{encoded_terms}
 use Rattle.aml_meaning.specs.ByteSession.{byte_session}
 use Rattle.named_sessions.specs.Core.{core_of, core_beside}
 use Rattle.meaning_rows.proofs.Rows.{fields}
@@ -20,10 +20,10 @@ use Rattle.meaning_rows.proofs.NameRows.{seg, one, at, shadowed, results}
 
 -- the bytes of terms with their names shortened, and of terms with their names as they are
 abbrev short_bytes : Trees → List ℕ
-short_bytes terms = encoded_all W64 true (core_of true terms)
+short_bytes terms = encoded_terms W64 true (core_of true terms)
 
 abbrev full_bytes : Trees → List ℕ
-full_bytes terms = encoded_all W64 true (core_of false terms)
+full_bytes terms = encoded_terms W64 true (core_of false terms)
 
 -- Name (X, 5)  Method (M) { Return (\X) }
 abbrev rooted : Trees
@@ -76,7 +76,7 @@ inner_use =
 
 -- the bytes of terms, their names shortened or not, where a path of no object stands in the way of these
 abbrev beside_bytes : Bool → AbsolutePath → Trees → List ℕ
-beside_bytes shorten path terms = encoded_all W64 true (core_beside shorten (is_same_path path) terms)
+beside_bytes shorten path terms = encoded_terms W64 true (core_beside shorten (is_same_path path) terms)
 
 -- the path \D.E.X of a descriptor stands in the way of X, which is met first, and \D.M.X in no way
 abbrev met_first : AbsolutePath

@@ -9,7 +9,7 @@ use Rattle.acpi_state.specs.Outcomes.{Flow, Normal, Gives, Unfinished, Result, D
 use Rattle.asl_tree.specs.Tree.{Integer, Return, While, Switch, Case, Default, Continue, Operated, Assigned, Trees}
 use Rattle.asl_meaning.specs.Declarations.{known_of}
 use Rattle.asl_meaning.specs.SourceSession.{source_session}
-use Rattle.aml_meaning.specs.Encoded.{encoded_all}
+use Rattle.aml_meaning.specs.Encoded.{encoded_terms}
 use Rattle.aml_meaning.specs.Codes.{code_front}
 use Rattle.aml_meaning.specs.ByteSession.{byte_session}
 use Rattle.aml_code.specs.Header.{HeaderFields, table_bytes}
@@ -52,7 +52,7 @@ content =
     ∷ 0x70 ∷ 0x60 ∷ 0x61
     ∷ 0xA4 ∷ 0x61 ∷ []
 
-bytes_are : encoded_all W64 true core ≡ content
+bytes_are : encoded_terms W64 true core ≡ content
 bytes_are = refl
 
 abbrev table : List ℕ

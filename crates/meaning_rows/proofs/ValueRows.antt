@@ -18,7 +18,7 @@ use Rattle.asl_tree.specs.declared.term.Literal.TheVariants as Literal
 use Rattle.asl_tree.specs.Tree.{Tree, Integer, Constant, String, InSlot, Debug as DebugTerm, Omitted, Raw, Use, Apply, Buffer, Package, CondRefOf, Return, Name, Method, Mutex, Event as EventTerm, Trees, no_trees, tree}
 use Rattle.asl_meaning.specs.Declarations.{known_of}
 use Rattle.asl_meaning.specs.SourceSession.{source_session}
-use Rattle.aml_meaning.specs.Encoded.{encoded, encoded_all}
+use Rattle.aml_meaning.specs.Encoded.{encoded, encoded_terms}
 use Rattle.aml_code.specs.Header.{table_bytes}
 use Rattle.aml_meaning.specs.ByteSession.{byte_session}
 use Rattle.aml_meaning.specs.Codes.{code_front}
@@ -53,7 +53,7 @@ abbrev bytes_of : Tree → List ℕ
 bytes_of t = encoded W64 true t
 
 abbrev table_of : Trees → List ℕ
-table_of terms = table_bytes fields (encoded_all W64 true terms)
+table_of terms = table_bytes fields (encoded_terms W64 true terms)
 
 abbrev run_bytes : Trees → List Value → List Request → List Report
 run_bytes terms answers requests = byte_session (table_of terms) [] 1 answers requests
@@ -76,7 +76,7 @@ last_events (r ∷ s ∷ rs) = last_events (s ∷ rs)
 abbrev add_one : Trees
 add_one = list_of (method 0x4D 1 (Return (number_op IntOp.Add (arg 0 ∷ Integer 1 ∷ []) (Omitted ∷ [])) ∷ []) ∷ [])
 
-add_one_bytes : encoded_all W64 true add_one ≡ 0x14 ∷ 0x0B ∷ 0x4D ∷ 0x5F ∷ 0x5F ∷ 0x5F ∷ 0x01 ∷ 0xA4 ∷ 0x72 ∷ 0x68 ∷ 0x01 ∷ 0x00 ∷ []
+add_one_bytes : encoded_terms W64 true add_one ≡ 0x14 ∷ 0x0B ∷ 0x4D ∷ 0x5F ∷ 0x5F ∷ 0x5F ∷ 0x01 ∷ 0xA4 ∷ 0x72 ∷ 0x68 ∷ 0x01 ∷ 0x00 ∷ []
 add_one_bytes = refl
 
 abbrev add_calls : List Request
@@ -123,7 +123,7 @@ abbrev inner_name : Trees
 inner_name =
     list_of (method 0x4D 0 (Name at (one_segment 0x58) (Integer 7) ∷ Return (Use at (record { root = true; up = 0; segs = (0x4D ∷ 0x5F ∷ 0x5F ∷ 0x5F ∷ []) ∷ (0x58 ∷ 0x5F ∷ 0x5F ∷ 0x5F ∷ []) ∷ [] })) ∷ []) ∷ [])
 
-inner_bytes : encoded_all W64 true inner_name
+inner_bytes : encoded_terms W64 true inner_name
     ≡ 0x14 ∷ 0x18 ∷ 0x4D ∷ 0x5F ∷ 0x5F ∷ 0x5F ∷ 0x00 ∷ 0x08 ∷ 0x58 ∷ 0x5F ∷ 0x5F ∷ 0x5F ∷ 0x0A ∷ 0x07 ∷ 0xA4 ∷ 0x5C ∷ 0x2E ∷ 0x4D ∷ 0x5F ∷ 0x5F ∷ 0x5F ∷ 0x58 ∷ 0x5F ∷ 0x5F ∷ 0x5F ∷ []
 inner_bytes = refl
 

@@ -20,7 +20,7 @@ use Rattle.asl_tree.specs.FieldItems.{UnitItem}
 use Rattle.asl_tree.specs.Tree.{At, UnitName, Integer, InSlot, Omitted, Use, Call, Apply, Buffer, Package, Return, Name, Alias, Method, Container', Scope, If, Else, While, OperationRegion, Field, CreateField, Trees, no_trees, tree}
 use Rattle.asl_meaning.specs.Declarations.{known_of, externals}
 use Rattle.asl_meaning.specs.SourceSession.{source_session}
-use Rattle.aml_meaning.specs.Encoded.{encoded_all}
+use Rattle.aml_meaning.specs.Encoded.{encoded_terms}
 use Rattle.aml_code.specs.Header.{HeaderFields, table_bytes}
 use Rattle.aml_meaning.specs.ByteSession.{byte_session, IsFaithful}
 use Rattle.aml_meaning.specs.Codes.{code_front}
@@ -186,7 +186,7 @@ abbrev fields : HeaderFields
 fields = record { signature = codes "SSDT"; revision = 2; oem_id = codes "OEMX00"; table_id = codes "TABLE001"; oem_revision = 1 }
 
 abbrev table : List ℕ
-table = table_bytes fields (encoded_all W64 true (core_of false program))
+table = table_bytes fields (encoded_terms W64 true (core_of false program))
 
 pub faithful_table : IsFaithful W64 (known_of program) (externals program) program table
 faithful_table = is_faithful false (λ path. false) W64 true program table is_shaped refl refl refl (omega arith) refl

@@ -222,8 +222,8 @@ pub fn name_faults(
     Ok(Messages::from_vec(errors))
 }
 
-/// What is wrong with the kinds of what a block mentions, and with how many arguments its calls have: the errors 6051,
-/// 6054 and 6020, in their order. Some of its mentions may be left out. The only error is want of memory.
+/// What is wrong with the kinds of what a block mentions, and with how many arguments its calls have: the errors 6051 and
+/// 6054, in their order. Some of its mentions may be left out. The only error is want of memory.
 pub fn kind_faults(
     alloc: Global,
     facts: &Facts,
@@ -251,7 +251,7 @@ pub fn name_errors_in(alloc: Global, known: &Known<'_>) -> Result<Messages, Allo
 }
 
 /// What is wrong with the kinds of what a block of which this is known uses, and with how many arguments its calls have,
-/// where nothing is wrong with its names: the errors 6051, 6054 and 6020, in the order of the terms. The only error is want
+/// where nothing is wrong with its names: the errors 6051 and 6054, in the order of the terms. The only error is want
 /// of memory.
 pub fn kind_errors(alloc: Global, known: &Known<'_>) -> Result<Messages, AllocError>
     requires { KnowsItsTerms known.now }
@@ -308,7 +308,7 @@ pub fn index(alloc: Global, known: Known<'_>) -> Result<Names, Stage>
 
 /// The names of a block of which this is known, where all are right (ACPI Specification 6.4, 5.3 and 19.6). Otherwise it
 /// is refused with the errors of names, 6040 to 6046, in the order of the terms, or where there are none with those of
-/// kinds, 6051, 6054 and 6020. A want of memory is `Stage::Memory`. The terms are borrowed no more.
+/// kinds, 6051 and 6054. A want of memory is `Stage::Memory`. The terms are borrowed no more.
 pub fn check_known(alloc: Global, known: Known<'_>) -> Result<Names, Stage>
     requires terms { are_terms (trees_of known.terms.now) ≡ true }
     requires known { KnowsItsTerms known }

@@ -370,7 +370,7 @@ module _ (shorten : Bool) (also : AbsolutePath → Bool) (whole : Whole) (says :
 
   -- an element of a Package
   ready_element : (t : Tree) (scope : AbsolutePath) (d : Declarations) → ElementShaped t (IsShaped t) → AreSegments scope → names whole t scope d ≡ [] → element_types whole t (types whole t scope) ≡ [] →
-      (is_expression t ≡ true → IsShaped t → types whole t scope ≡ [] → IsReady known (spelled shorten also has says t scope) scope) → ElementReady known (element_spelled shorten has t (spelled shorten also has says t scope) scope) (IsReady known (element_spelled shorten has t (spelled shorten also has says t scope) scope) scope)
+      (is_expression t ≡ true → IsShaped t → types whole t scope ≡ [] → IsReady (Unit {0}) known (spelled shorten also has says t scope) scope) → ElementReady known (element_spelled shorten has t (spelled shorten also has says t scope) scope) (IsReady (Unit {0}) known (element_spelled shorten has t (spelled shorten also has says t scope) scope) scope)
   ready_element (Use at name) scope d shaped valid e y h = element_ready at name scope shaped valid e
   ready_element (Integer number) scope d shaped valid e y h = (refl, h refl shaped.1 y)
   ready_element (Constant literal) scope d shaped valid e y h = (refl, h refl shaped.1 y)
@@ -381,7 +381,7 @@ module _ (shorten : Bool) (also : AbsolutePath → Bool) (whole : Whole) (says :
   ready_element t scope d shaped valid e y h = absurd (grind arith)
 
   mutual
-    ready_value : (t : Tree) (scope : AbsolutePath) (d : Declarations) → is_expression t ≡ true → IsShaped t → AreSegments scope → names whole t scope d ≡ [] → types whole t scope ≡ [] → IsReady known (spelled shorten also has says t scope) scope
+    ready_value : (t : Tree) (scope : AbsolutePath) (d : Declarations) → is_expression t ≡ true → IsShaped t → AreSegments scope → names whole t scope d ≡ [] → types whole t scope ≡ [] → IsReady (Unit {0}) known (spelled shorten also has says t scope) scope
     ready_value (Integer number) scope d x shaped valid e y = shaped
     ready_value (Constant literal) scope d x shaped valid e y = tt
     ready_value (String text) scope d x shaped valid e y = shaped
@@ -426,7 +426,7 @@ module _ (shorten : Bool) (also : AbsolutePath → Bool) (whole : Whole) (says :
     ready_value t scope d x shaped valid e y = absurd (grind arith)
 
     -- a term that stands for a place
-    ready_spot : (t : Tree) (scope : AbsolutePath) (d : Declarations) → IsShapedSpot t → AreSegments scope → names whole t scope d ≡ [] → spot_types whole t scope ≡ [] → IsSpot known (spelled shorten also has says t scope) scope
+    ready_spot : (t : Tree) (scope : AbsolutePath) (d : Declarations) → IsShapedSpot t → AreSegments scope → names whole t scope d ≡ [] → spot_types whole t scope ≡ [] → IsSpot (Unit {0}) known (spelled shorten also has says t scope) scope
     ready_spot Omitted scope d shaped valid e y = tt
     ready_spot Debug scope d shaped valid e y = tt
     ready_spot (InSlot slot) scope d shaped valid e y = shaped
@@ -443,7 +443,7 @@ module _ (shorten : Bool) (also : AbsolutePath → Bool) (whole : Whole) (says :
     ready_spot (Operated op args) scope d shaped valid e y = absurd shaped.0
     ready_spot t scope d shaped valid e y = absurd shaped
 
-    ready_cond : (t : Tree) (scope : AbsolutePath) (d : Declarations) → IsShapedSpot t → AreSegments scope → cond_errors whole t (names whole t scope d) scope ≡ [] → spot_types whole t scope ≡ [] → CondReady known (spelled shorten also has says t scope) (IsSpot known (spelled shorten also has says t scope) scope) scope
+    ready_cond : (t : Tree) (scope : AbsolutePath) (d : Declarations) → IsShapedSpot t → AreSegments scope → cond_errors whole t (names whole t scope d) scope ≡ [] → spot_types whole t scope ≡ [] → CondReady known (spelled shorten also has says t scope) (IsSpot (Unit {0}) known (spelled shorten also has says t scope) scope) scope
     ready_cond (Use at name) scope d shaped valid e y = few_candidates shorten name scope shaped valid
     ready_cond Omitted scope d shaped valid e y = tt
     ready_cond Debug scope d shaped valid e y = tt
@@ -460,14 +460,14 @@ module _ (shorten : Bool) (also : AbsolutePath → Bool) (whole : Whole) (says :
     ready_cond (Operated op args) scope d shaped valid e y = absurd shaped.0
     ready_cond t scope d shaped valid e y = absurd shaped
 
-    ready_alone : (args targets : Trees) (scope : AbsolutePath) (d : Declarations) → IsShapedAlone args targets → AreSegments scope → names_all whole args scope d ≡ [] → first_types whole args scope ≡ [] → IsAlone known (spelled_all shorten also has says args scope) (spelled_all shorten also has says targets scope) scope
+    ready_alone : (args targets : Trees) (scope : AbsolutePath) (d : Declarations) → IsShapedAlone args targets → AreSegments scope → names_all whole args scope d ≡ [] → first_types whole args scope ≡ [] → IsAlone (Unit {0}) known (spelled_all shorten also has says args scope) (spelled_all shorten also has says targets scope) scope
     ready_alone (tree t no_trees) no_trees scope d shaped valid e y =
         (same_expression shorten also has says t scope ∙ shaped.0, ready_value t scope d shaped.0 shaped.1 valid (left_none _ (names_all whole no_trees scope (declare t scope d)) e) y)
     ready_alone (tree t no_trees) (tree u us) scope d shaped valid e y = absurd shaped
     ready_alone (tree t (tree u us)) targets scope d shaped valid e y = absurd shaped
     ready_alone no_trees targets scope d shaped valid e y = absurd shaped
 
-    ready_operands : (asked : Asked) (letters : List Letter) (ts : Trees) (scope : AbsolutePath) (d : Declarations) → AreShapedOperands letters ts → AreSegments scope → names_all whole ts scope d ≡ [] → operand_types whole asked letters ts scope ≡ [] → AreOperands known letters (spelled_all shorten also has says ts scope) scope
+    ready_operands : (asked : Asked) (letters : List Letter) (ts : Trees) (scope : AbsolutePath) (d : Declarations) → AreShapedOperands letters ts → AreSegments scope → names_all whole ts scope d ≡ [] → operand_types whole asked letters ts scope ≡ [] → AreOperands (Unit {0}) known letters (spelled_all shorten also has says ts scope) scope
     ready_operands asked [] no_trees scope d shaped valid e y = tt
     ready_operands asked [] (tree t ts) scope d shaped valid e y = absurd shaped
     ready_operands asked (letter ∷ letters) no_trees scope d shaped valid e y = absurd shaped
@@ -477,17 +477,17 @@ module _ (shorten : Bool) (also : AbsolutePath → Bool) (whole : Whole) (says :
           ready_operands asked letters ts scope (declare t scope d) shaped.1 valid (right_none (names whole t scope d) _ e) (right_none (letter_types whole letter (types whole t scope) (spot_types whole t scope) (used_types whole asked t scope)) _ y),
         )
 
-    ready_spots : (ts : Trees) (scope : AbsolutePath) (d : Declarations) → AreShapedSpots ts → AreSegments scope → names_all whole ts scope d ≡ [] → spot_types_all whole ts scope ≡ [] → AreSpots known (spelled_all shorten also has says ts scope) scope
+    ready_spots : (ts : Trees) (scope : AbsolutePath) (d : Declarations) → AreShapedSpots ts → AreSegments scope → names_all whole ts scope d ≡ [] → spot_types_all whole ts scope ≡ [] → AreSpots (Unit {0}) known (spelled_all shorten also has says ts scope) scope
     ready_spots no_trees scope d shaped valid e y = tt
     ready_spots (tree t ts) scope d shaped valid e y =
         (ready_spot t scope d shaped.0 valid (left_none _ (names_all whole ts scope (declare t scope d)) e) (left_none _ (spot_types_all whole ts scope) y), ready_spots ts scope (declare t scope d) shaped.1 valid (right_none (names whole t scope d) _ e) (right_none (spot_types whole t scope) _ y))
 
-    ready_values : (ts : Trees) (scope : AbsolutePath) (d : Declarations) → AreShapedValues ts → AreSegments scope → names_all whole ts scope d ≡ [] → types_all whole ts scope ≡ [] → AreValues known (spelled_all shorten also has says ts scope) scope
+    ready_values : (ts : Trees) (scope : AbsolutePath) (d : Declarations) → AreShapedValues ts → AreSegments scope → names_all whole ts scope d ≡ [] → types_all whole ts scope ≡ [] → AreValues (Unit {0}) known (spelled_all shorten also has says ts scope) scope
     ready_values no_trees scope d shaped valid e y = tt
     ready_values (tree t ts) scope d shaped valid e y =
         (same_expression shorten also has says t scope ∙ shaped.0, ready_value t scope d shaped.0 shaped.1 valid (left_none _ (names_all whole ts scope (declare t scope d)) e) (left_none _ (types_all whole ts scope) y), ready_values ts scope (declare t scope d) shaped.2 valid (right_none (names whole t scope d) _ e) (right_none (types whole t scope) _ y))
 
-    ready_elements : (ts : Trees) (scope : AbsolutePath) (d : Declarations) → AreShapedElements ts → AreSegments scope → names_all whole ts scope d ≡ [] → element_types_all whole ts scope ≡ [] → AreElements known (spelled_elements shorten also has says ts scope) scope
+    ready_elements : (ts : Trees) (scope : AbsolutePath) (d : Declarations) → AreShapedElements ts → AreSegments scope → names_all whole ts scope d ≡ [] → element_types_all whole ts scope ≡ [] → AreElements (Unit {0}) known (spelled_elements shorten also has says ts scope) scope
     ready_elements no_trees scope d shaped valid e y = tt
     ready_elements (tree t ts) scope d shaped valid e y =
         let e0 = left_none _ (names_all whole ts scope (declare t scope d)) e in
@@ -524,7 +524,7 @@ module _ (shorten : Bool) (also : AbsolutePath → Bool) (whole : Whole) (says :
   ready_items (ConnectionItem (ToBytes bytes) ∷ items) scope at shaped units = (tt, ready_items items scope at shaped.1 units.1)
 
   mutual
-    ready : (t : Tree) (scope : AbsolutePath) (d : Declarations) → IsShaped t → AreSegments scope → names whole t scope d ≡ [] → types whole t scope ≡ [] → Within (declare t scope d) whole.all → IsReady known (spelled shorten also has says t scope) scope
+    ready : (t : Tree) (scope : AbsolutePath) (d : Declarations) → IsShaped t → AreSegments scope → names whole t scope d ≡ [] → types whole t scope ≡ [] → Within (declare t scope d) whole.all → IsReady (Unit {0}) known (spelled shorten also has says t scope) scope
     ready (Integer number) scope d shaped valid e y w = ready_value (Integer number) scope d refl shaped valid e y
     ready (Constant literal) scope d shaped valid e y w = ready_value (Constant literal) scope d refl shaped valid e y
     ready (String text) scope d shaped valid e y w = ready_value (String text) scope d refl shaped valid e y
@@ -570,11 +570,13 @@ module _ (shorten : Bool) (also : AbsolutePath → Bool) (whole : Whole) (says :
         ap (λ o. choose o [] (λ path. unless (is_same_path path inner) (Missing at name) ++ unless (is_container (final known path)) (NoContainer here name))) (sym den) ∙ right_none (use_errors whole at name scope) _ e0 in
         let is : f.path ≡ inner = is_same_path-true f.path inner (holds (is_same_path f.path inner) (Missing at name) (left_none _ (unless (is_container (final known f.path)) (NoContainer here name)) es)) in
         let y' : types_all whole body f.path ≡ [] = ap (λ o. types_all whole body (choose o [] (λ path. path))) (sym den) ∙ y in
-        let at_path : AreReady known (spelled_all shorten also has says body f.path) f.path =
+        let at_path : AreReady (Unit {0}) known (spelled_all shorten also has says body f.path) f.path =
         ready_all body f.path d shaped.1 f.segments (ap (λ p. names_all whole body p d) is ∙ right_none (use_errors whole at name scope ++ scope_errors whole here at name scope d) _ e) y' (subst (λ p. Within (declare_all body p d) whole.all) (sym is) w) in
-        (f.path, f.spells, subst (λ p. AreReady known (spelled_all shorten also has says body p) f.path) (sym (ap (λ o. choose o [] (λ path. path)) f.denotes)) at_path)
+        (f.path, f.spells, subst (λ p. AreReady (Unit {0}) known (spelled_all shorten also has says body p) f.path) (sym (ap (λ o. choose o [] (λ path. path)) f.denotes)) at_path)
     ready (If test body) scope d shaped valid e y w =
         (same_expression shorten also has says test scope ∙ shaped.0, ready_value test scope d shaped.0 shaped.1 valid (left_none _ (names_all whole body scope d) e) (left_none _ (types_all whole body scope) y), ready_all body scope d shaped.2 valid (right_none (names whole test scope d) _ e) (right_none (types whole test scope) _ y) w)
+    ready (ElseIf test body) scope d shaped valid e y w =
+        (tt, same_expression shorten also has says test scope ∙ shaped.0, ready_value test scope d shaped.0 shaped.1 valid (left_none _ (names_all whole body scope d) e) (left_none _ (types_all whole body scope) y), ready_all body scope d shaped.2 valid (right_none (names whole test scope d) _ e) (right_none (types whole test scope) _ y) w)
     ready (Else body) scope d shaped valid e y w = ready_all body scope d shaped valid e y w
     ready (While test body) scope d shaped valid e y w =
         (same_expression shorten also has says test scope ∙ shaped.0, ready_value test scope d shaped.0 shaped.1 valid (left_none _ (names_all whole body scope d) e) (left_none _ (types_all whole body scope) y), ready_all body scope d shaped.2 valid (right_none (names whole test scope d) _ e) (right_none (types whole test scope) _ y) w)
@@ -610,7 +612,6 @@ module _ (shorten : Bool) (also : AbsolutePath → Bool) (whole : Whole) (says :
     ready (Operated op args) scope d shaped valid e y w = absurd shaped.0
     ready (Assigned target value) scope d shaped valid e y w = absurd shaped.0
     ready (AssignedBy op target value) scope d shaped valid e y w = absurd shaped.0
-    ready (ElseIf test body) scope d shaped valid e y w = absurd shaped.0
     ready (Switch value cases) scope d shaped valid e y w = absurd shaped.0
     ready (Case value body) scope d shaped valid e y w = absurd shaped
     ready (Default body) scope d shaped valid e y w = absurd shaped
@@ -618,7 +619,7 @@ module _ (shorten : Bool) (also : AbsolutePath → Bool) (whole : Whole) (says :
     ready (Print place format args) scope d shaped valid e y w = absurd shaped.0
     ready Misshapen scope d shaped valid e y w = absurd shaped
 
-    pub ready_all : (ts : Trees) (scope : AbsolutePath) (d : Declarations) → AreShaped ts → AreSegments scope → names_all whole ts scope d ≡ [] → types_all whole ts scope ≡ [] → Within (declare_all ts scope d) whole.all → AreReady known (spelled_all shorten also has says ts scope) scope
+    pub ready_all : (ts : Trees) (scope : AbsolutePath) (d : Declarations) → AreShaped ts → AreSegments scope → names_all whole ts scope d ≡ [] → types_all whole ts scope ≡ [] → Within (declare_all ts scope d) whole.all → AreReady (Unit {0}) known (spelled_all shorten also has says ts scope) scope
     ready_all no_trees scope d shaped valid e y w = tt
     ready_all (tree t ts) scope d shaped valid e y w =
         let e' = right_none (names whole t scope d) (names_all whole ts scope (declare t scope d)) e in

@@ -259,6 +259,11 @@ module _ (shorten : Bool) (also : AbsolutePath → Bool) (width : Width) (says :
     alike (If test body) scope due h =
         agree_then G Any (λ f. f) _ (alike_size shorten also width says known _ _ (alike_value shorten also width says known (is_expression test) _ _ h.0 (alike test scope false h.1)))
         (λ k any. agree_if G Any (λ f. f) (is_true k) (alike_all body scope false h.2) (agree_done G Any (λ f. f) (Normal true) tt))
+    alike (ElseIf test body) scope due h =
+        agree_if G Any (λ f. f) due
+        (agree_then G Any (λ f. f) _ (alike_size shorten also width says known _ _ (alike_value shorten also width says known (is_expression test) _ _ h.0 (alike test scope false h.1)))
+        (λ k any. agree_if G Any (λ f. f) (is_true k) (alike_all body scope false h.2) (agree_done G Any (λ f. f) (Normal true) tt)))
+        (agree_done G Any (λ f. f) (Normal false) tt)
     alike (Else body) scope due h = agree_if G Any (λ f. f) due (alike_all body scope false h) (agree_done G Any (λ f. f) (Normal false) tt)
     alike (While test body) scope due h =
         agree_loop G {X = Unit {0}} (λ u. u) turns _ _ _ _
@@ -285,7 +290,6 @@ module _ (shorten : Bool) (also : AbsolutePath → Bool) (width : Width) (says :
     alike (Operated op args) scope due h = absurd h.0
     alike (Assigned target value) scope due h = absurd h.0
     alike (AssignedBy op target value) scope due h = absurd h.0
-    alike (ElseIf test body) scope due h = absurd h.0
     alike (Switch value cases) scope due h = absurd h.0
     alike (Case value body) scope due h = absurd h
     alike (Default body) scope due h = absurd h

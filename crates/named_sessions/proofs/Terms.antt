@@ -186,7 +186,7 @@ module _ (Forms : Type 0) (Listed : List (FieldItem UnitName) → Type 0) (Symbo
     formed_term (Operated op args) h = value (Operated op args) refl h
     formed_term (Assigned target v) h = value (Assigned target v) refl h
     formed_term (AssignedBy op target v) h = value (AssignedBy op target v) refl h
-    formed_term (ElseIf test body) h = and_from (is_value test) (are_terms body) (value test h.1 h.2) (terms body h.3)
+    formed_term (ElseIf test body) h = and_from (is_value test) (are_terms body) (value test h.0 h.1) (terms body h.2)
     formed_term (For start test step body) h =
         and_from (is_value start) (is_value test && (is_value step && are_terms body)) (effect_value start (λ e s. value start e s) h.1)
         (and_from (is_value test) (is_value step && are_terms body) (value test h.2 h.3) (and_from (is_value step) (are_terms body) (effect_value step (λ e s. value step e s) h.4) (terms body h.5)))

@@ -7,7 +7,7 @@ use Rattle.asl_tree.specs.Tree.{Trees}
 use Rattle.asl_tree.specs.View.{trees_of}
 use Rattle.asl_meaning.specs.Declarations.{known_of, externals}
 use Rattle.aml_code.specs.Header.{table_bytes, fields_of, IsHeader}
-use Rattle.aml_meaning.specs.Encoded.{encoded_all}
+use Rattle.aml_meaning.specs.Encoded.{encoded_terms}
 use Rattle.aml_meaning.specs.ByteSession.{IsFaithful}
 use Rattle.acpi_names.specs.Errors.{name_errors, type_errors}
 use Rattle.named_sessions.specs.Shaped.{AreShaped}
@@ -35,7 +35,7 @@ pub record IsRightBlock (block : Block) : Type 0 where
 -- caller's choice
 abbrev pub block_table : Bool → Bool → (also : AbsolutePath → Bool) → Block → List ℕ
 block_table short shorten also block =
-    table_bytes (fields_of block) (encoded_all (width_of block.revision) short (core_beside shorten also (terms_of block)))
+    table_bytes (fields_of block) (encoded_terms (width_of block.revision) short (core_beside shorten also (terms_of block)))
 
 -- bytes that begin with the header that the block states, and that do what the block does at the width that its revision gives
 pub record DoesAs (block : Block) (bytes : List ℕ) : Type 0 where

@@ -81,7 +81,7 @@ IsFollowed (Switch value cases) terms = StartsNoElse terms
 IsFollowed term terms = Unit {0}
 
 -- a tree whose lists of fields are `Listed`, and in which a For and what prints stand where that is `Forms`, what is
--- written with a symbol, and an ElseIf, where that is `Symbols`, and a Switch where that is `Switches`
+-- written with a symbol where that is `Symbols`, and a Switch where that is `Switches`
 module _ (Forms : Type 0) (Listed : List (FieldItem UnitName) → Type 0) (Symbols Switches : Type 0) where
   abbrev mutual
     pub IsFormed : Tree → Type 0
@@ -126,7 +126,7 @@ module _ (Forms : Type 0) (Listed : List (FieldItem UnitName) → Type 0) (Symbo
     IsFormed (Assigned target value) = Symbols × IsFormedSpot target × (is_expression value ≡ true) × IsFormed value
     IsFormed (AssignedBy op target value) = Symbols × IsFormedSpot target × (is_expression target ≡ true) × IsFormed target
         × (is_expression value ≡ true) × IsFormed value
-    IsFormed (ElseIf test body) = Symbols × (is_expression test ≡ true) × IsFormed test × AreFormed body
+    IsFormed (ElseIf test body) = (is_expression test ≡ true) × IsFormed test × AreFormed body
     IsFormed (For start test step body) = Forms × EffectShaped start (IsFormed start) × (is_expression test ≡ true) × IsFormed test
         × EffectShaped step (IsFormed step) × AreFormed body
     -- as many arguments as the format asks for
@@ -182,7 +182,7 @@ module _ (Forms : Type 0) (Listed : List (FieldItem UnitName) → Type 0) (Symbo
     AreFormedCases (tree (Default body) no_trees) = AreFormed body
     AreFormedCases _ = ⊥
 
--- a tree without Fors and what prints, symbols, ElseIfs and Switches, in whose lists no Offset goes back and each count
+-- a tree without Fors and what prints, symbols and Switches, in whose lists no Offset goes back and each count
 -- of bits can be written
 abbrev pub IsShaped : Tree → Type 0
 IsShaped = IsFormed ⊥ (AreItems 0) ⊥ ⊥

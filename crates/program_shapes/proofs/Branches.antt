@@ -5,8 +5,9 @@ use Rattle.iasl_messages.specs.declared.place.Place.{Place}
 use Rattle.asl_tree.specs.Tree.{Tree, Case, Default, Trees, no_trees, tree}
 use Rattle.asl_words.specs.declared.operator.Body.{Body}
 use Rattle.asl_words.specs.declared.operator.Body.TheVariants as braces
-use Rattle.asl_terms.specs.Plans.{Plan, Plans, no_plans, plan, join}
-use Rattle.asl_terms.specs.Terms.{is_default_plan, default_last, one_plan}
+use Rattle.term_plans.specs.Plans.{Plan, Plans, no_plans, plan, join}
+use Rattle.asl_terms.specs.Terms.{is_default_plan, default_last}
+use Rattle.term_plans.specs.Plans.{one_plan}
 use Rattle.asl_numbers.specs.Numbers.{numbered}
 use Rattle.program_shapes.proofs.Fits.{FormedCases, IsCase, IsDefault, IsBranch}
 use Rattle.program_shapes.proofs.Operators.{BodyFit}

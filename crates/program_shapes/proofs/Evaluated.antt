@@ -15,8 +15,9 @@ use Rattle.asl_words.specs.declared.operator.Slot.{Slot}
 use Rattle.asl_words.specs.declared.operator.Slot.TheVariants as slot
 use Rattle.acpi_values.specs.declared.width.Width.TheVariants.{W64}
 use Rattle.acpi_values.specs.declared.width.Width.{Width}
-use Rattle.asl_terms.specs.Plans.{Plan, an_integer, a_text, a_word, omitted, a_name, a_form, Plans, no_plans, plan, is_omitted, how_many, constant_of}
-use Rattle.asl_terms.specs.Terms.{Shaped, fine, refused, nowhere, valued, is_member, is_element, is_case_package, case_member, case_value}
+use Rattle.term_plans.specs.Plans.{Plan, an_integer, a_text, a_word, omitted, a_name, a_form, Plans, no_plans, plan, is_omitted, how_many, constant_of}
+use Rattle.asl_terms.specs.Terms.{Shaped, fine, refused, valued, is_member, is_element, is_case_package, case_member, case_value}
+use Rattle.term_plans.specs.Places.{nowhere}
 use Rattle.asl_terms.specs.Terms.{evaluated, after, checked}
 use Rattle.program_shapes.proofs.Fits.{Fits, IsAtMost}
 use Rattle.program_shapes.proofs.Forms.{IsPackageOf}

@@ -36,15 +36,16 @@ use Rattle.asl_syntax.specs.Written as piece
 use Rattle.asl_syntax.specs.Written.{Written, Writtens, item, apply, listed, comma, semicolon, empty, none, more}
 use Rattle.asl_syntax.specs.declared.raw.Infix.{Infix}
 use Rattle.asl_shape.specs.declared.around.Around.{Around}
-use Rattle.asl_terms.specs.Plans.{Plan, a_form, a_name, a_call, omitted, Plans, no_plans, plan}
+use Rattle.term_plans.specs.Plans.{Plan, a_form, a_name, a_call, omitted, Plans, no_plans, plan}
 use Rattle.asl_terms.specs.Symbols.{symbol_of}
 use Rattle.asl_terms.specs.Terms as shapes
-use Rattle.asl_terms.specs.Terms.{Shaped, fine, refused, nowhere, after, checked, place_of, is_given, inside_of, is_default_op}
+use Rattle.asl_terms.specs.Terms.{Shaped, fine, refused, after, checked, place_of, is_given, inside_of, is_default_op}
+use Rattle.term_plans.specs.Places.{nowhere}
 use Rattle.asl_terms.specs.Terms.{is_default_plan, settled, arranged}
 use Rattle.asl_shape.specs.Shapes.{is_empty, is_separator, has_arguments, skipped, run_after, default_after}
 use Rattle.asl_terms.specs.Terms.{known_plan, path_shape}
 use Rattle.asl_shape.specs.Shapes.{form_shape, call_shape, read_shape, item_shape, element_shape, macro_shape, template_shape}
-use Rattle.asl_shape.specs.Shapes.{descriptor_shape, bare, call_args, arguments, arguments_in, contents, terms, within}
+use Rattle.asl_shape.specs.Shapes.{descriptor_shape, is_number_list, bare, call_args, arguments, arguments_in, contents, terms, within}
 use Rattle.asl_numbers.specs.Numbers.{numbered, numbered_all}
 use Rattle.program_shapes.proofs.Fits.{Formed, FormedTerms}
 use Rattle.program_shapes.proofs.Plans.{PlanAs, PlansAs, none_as, more_as, form_as, omitted_as}
@@ -229,7 +230,7 @@ term_so inside (item at w args body) sep e =
     let element : FieldWord → Shaped Plan = λ e. element_shape e (arguments (element_parameters e) at inside args) in
     let expanded : TextMacro → Shaped Plan = λ x. macro_shape (arguments (macro_parameters x) at inside args) in
     let template : Shaped Plan = template_shape at (contents (braces.Descriptors false) inside at body) in
-    let described : Descriptor → Shaped Plan = λ d. descriptor_shape d at (arguments (descriptor_parameters d) at inside args) (contents (descriptor_body d) inside at body) in
+    let described : Descriptor → Shaped Plan = λ d. descriptor_shape d at (is_number_list (descriptor_body d) body) (arguments (descriptor_parameters d) at inside args) (contents (descriptor_body d) inside at body) in
     item_fit (PlanAs NoElse) s inside.method m (has_arguments m (inside_of args)) (is_given body) at (read_shape s at w (reading_of s m (is_given args)) (call_args inside args) element expanded template described form)
     (λ may has f. read_so at w inside.method m (is_given args) (call_args inside args) element expanded template described form may
     (λ op stands. form_plan_so inside.method op (settled inside.width op at (arguments (parameters_as op s) at inside args).made) (arranged op (contents (body_as op s) (within op inside) at body).made) stands)) e
@@ -304,7 +305,7 @@ term_turn inside run (item at w args body) sep =
     let element : FieldWord → Shaped Plan = λ e. element_shape e (arguments (element_parameters e) at inside args) in
     let expanded : TextMacro → Shaped Plan = λ x. macro_shape (arguments (macro_parameters x) at inside args) in
     let template : Shaped Plan = template_shape at (contents (braces.Descriptors false) inside at body) in
-    let described : Descriptor → Shaped Plan = λ d. descriptor_shape d at (arguments (descriptor_parameters d) at inside args) (contents (descriptor_body d) inside at body) in
+    let described : Descriptor → Shaped Plan = λ d. descriptor_shape d at (is_number_list (descriptor_body d) body) (arguments (descriptor_parameters d) at inside args) (contents (descriptor_body d) inside at body) in
     by (item_fault s inside.method m (has_arguments m (inside_of args)) (is_given body)) (read_shape s at w (reading_of s m (is_given args)) (call_args inside args) element expanded template described form)
     (turn at w run m (is_given args) (call_args inside args) element expanded template described form (λ op. settled inside.width op at (arguments (parameters_as op s) at inside args).made) (λ op. arranged op (contents (body_as op s) (within op inside) at body).made) (λ op. refl))
   where
@@ -391,7 +392,7 @@ branch_kind inside defaulted (item at w args body) sep emp e =
     let element : FieldWord → Shaped Plan = λ e. element_shape e (arguments (element_parameters e) at inside args) in
     let expanded : TextMacro → Shaped Plan = λ x. macro_shape (arguments (macro_parameters x) at inside args) in
     let template : Shaped Plan = template_shape at (contents (braces.Descriptors false) inside at body) in
-    let described : Descriptor → Shaped Plan = λ d. descriptor_shape d at (arguments (descriptor_parameters d) at inside args) (contents (descriptor_body d) inside at body) in
+    let described : Descriptor → Shaped Plan = λ d. descriptor_shape d at (is_number_list (descriptor_body d) body) (arguments (descriptor_parameters d) at inside args) (contents (descriptor_body d) inside at body) in
     item_fit (λ p. is_default_plan p ≡ is_default m) s inside.method m (has_arguments m (inside_of args)) (is_given body) at (read_shape s at w (reading_of s m (is_given args)) (call_args inside args) element expanded template described form)
     (λ may has f. branch_read defaulted at w m (is_given args) (call_args inside args) element expanded template described form (λ op. refl) f) e
 branch_kind inside defaulted comma sep emp e = absurd cc

@@ -139,7 +139,7 @@ pub if_made : (here : At) (ts body : Trees) → One expression ts → FormedTerm
 if_made here _ body (one t h) b = (h.0, h.1, b)
 
 pub else_if_made : (here : At) (ts body : Trees) → One expression ts → FormedTerms body → Formed (form here (Op.Control Control.ElseIf) ts body)
-else_if_made here _ body (one t h) b = (tt, h.0, h.1, b)
+else_if_made here _ body (one t h) b = (h.0, h.1, b)
 
 pub while_made : (here : At) (ts body : Trees) → One expression ts → FormedTerms body → Formed (form here (Op.Control Control.While) ts body)
 while_made here _ body (one t h) b = (h.0, h.1, b)

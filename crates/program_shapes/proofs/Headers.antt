@@ -23,10 +23,11 @@ use Rattle.acpi_values.specs.declared.width.Width.{Width}
 use Rattle.asl_shape.specs.declared.around.Around.{Around}
 use Rattle.asl_words.specs.Resources.{descriptor_parameters, descriptor_body}
 use Rattle.asl_words.specs.declared.operator.Body.TheVariants as braces
-use Rattle.asl_terms.specs.Plans.{Plan, a_text, omitted, Plans, no_plans, plan, join, text_of, plan_at}
-use Rattle.asl_terms.specs.Terms.{Shaped, fine, unformed, nowhere, is_given, inside_of, checked, place_of, after}
+use Rattle.term_plans.specs.Plans.{Plan, a_text, omitted, Plans, no_plans, plan, join, text_of, plan_at}
+use Rattle.asl_terms.specs.Terms.{Shaped, fine, unformed, is_given, inside_of, checked, place_of, after}
+use Rattle.term_plans.specs.Places.{nowhere}
 use Rattle.asl_shape.specs.Shapes.{is_empty, is_separator, has_arguments, takes, left_out, bare, call_args, arguments, arguments_in}
-use Rattle.asl_shape.specs.Shapes.{contents, within, form_shape, read_shape, element_shape, macro_shape, template_shape, descriptor_shape}
+use Rattle.asl_shape.specs.Shapes.{contents, within, form_shape, read_shape, element_shape, macro_shape, template_shape, descriptor_shape, is_number_list}
 use Rattle.asl_shape.specs.Shapes.{meaning_in}
 use Rattle.word_meanings.specs.Meanings.{meaning_of, may_end, reading_of, slot_as}
 use Rattle.asl_words.specs.Texts.{has_form, is_all_text, is_signature, is_oem_signature}
@@ -83,7 +84,7 @@ string_form f inside (item at w args body) sep emp e =
     let element : FieldWord → Shaped Plan = λ e. element_shape e (arguments (element_parameters e) at inside args) in
     let expanded : TextMacro → Shaped Plan = λ m. macro_shape (arguments (macro_parameters m) at inside args) in
     let template : Shaped Plan = template_shape at (contents (braces.Descriptors false) inside at body) in
-    let described : Descriptor → Shaped Plan = λ d. descriptor_shape d at (arguments (descriptor_parameters d) at inside args) (contents (descriptor_body d) inside at body) in
+    let described : Descriptor → Shaped Plan = λ d. descriptor_shape d at (is_number_list (descriptor_body d) body) (arguments (descriptor_parameters d) at inside args) (contents (descriptor_body d) inside at body) in
     item_fit (λ p. IsTextOf f (text_of p)) (slot.String f) inside.method m (has_arguments m (inside_of args)) (is_given body) at (read_shape (slot.String f) at w (reading_of (slot.String f) m (is_given args)) (call_args inside args) element expanded template described form)
     (λ may has g. absurd (no_string f at w m (is_given args) (call_args inside args) element expanded template described form g)) e
 string_form f inside (piece.number at n) sep emp e = absurd cc

@@ -1,7 +1,7 @@
 -- What the grammar reads is kept: no argument is a separator, a symbol has the operands that it asks for, nothing in braces is left out, and there is less of all than 2^64.
 use Rattle.std.proofs.Common.{◌≡◌, ℕ, suc, ◌+◌, ◌<◌, ◌≤◌, ◌^◌, Bool, true, false, List, [], ◌∷◌, ◌++◌, length, Option, Some, None, refl, sym, ap, ◌∙◌, subst, arith}
 use Rattle.std.specs.Prelude.{not, ◌||◌, ◌&&◌, if◌then◌else◌}
-use Rattle.std.specs.List.{All, list_all}
+use Rattle.std.specs.List.{list_all}
 use Rattle.std.proofs.lemmas.List.Elements.{All-head, All-tail}
 use Rattle.acpi_values.specs.Widths.{ones_of}
 use Rattle.acpi_values.specs.declared.width.Width.TheVariants.{W64}
@@ -32,7 +32,7 @@ use Rattle.asl_shape.specs.Shapes.{is_empty, is_separator, takes}
 use Rattle.asl_terms.specs.Terms as shapes
 use Rattle.asl_syntax.specs.Views.{written_number, written_text, written_item, written_apply, written_list, written_comma, written_semicolon, written_empty}
 use Rattle.program_shapes.proofs.Words.{both_true}
-use Rattle.program_shapes.specs.Kept.{IsKept, AreArguments, EachArgument, AreMembers, EachMember, IsKeptSource, AreKeptAlone}
+use Rattle.program_shapes.specs.Kept.{IsKept, AreArguments, EachArgument, AreMembers, EachMember, IsKeptSource, AreKeptAlone, HaveShortTexts}
 
 -- ---- how many trees a phrase is of, at most the tokens that it takes
 
@@ -386,10 +386,6 @@ lexeme_kept k.Path n text h = tt
 lexeme_kept k.Number n text h = tt
 lexeme_kept k.Text n text h = omega (arith, h)
 lexeme_kept k.Symbol n text h = symbol_kept text
-
--- each text of a source is shorter than 2^32
-abbrev pub HaveShortTexts : List Token → Type 0
-HaveShortTexts tokens = All (λ token. length token.text < 2 ^ 32) tokens
 
 marks_kept : (n : ℕ) (tokens : List Token) → HaveShortTexts tokens → MarksKept (marks n tokens)
 marks_kept n [] h = tt

@@ -198,7 +198,7 @@ module _ (Forms Symbols Switches : Type 0) where
     term_laid (Operated op args) h e = value_laid (Operated op args) refl h
     term_laid (Assigned target value) h e = value_laid (Assigned target value) refl h
     term_laid (AssignedBy op target value) h e = value_laid (AssignedBy op target value) refl h
-    term_laid (ElseIf test body) h e = (h.0, h.1, value_laid test h.1 h.2, terms_laid body h.3 e)
+    term_laid (ElseIf test body) h e = (h.0, value_laid test h.0 h.1, terms_laid body h.2 e)
     term_laid (For start test step body) h e = (
       h.0,
       effect_laid start (λ x f. value_laid start x f) h.1,

@@ -21,7 +21,7 @@ use Rattle.asl_lexer.specs.Marks.{marks_from, following, joined, tokens_of}
 use Rattle.asl_lexer.specs.Cut.{Each, class, in_name, begins_name, in_line, in_text, is_caret, digit_in, in_name_class, begins_name_class, in_line_class, in_text_class, is_caret_class, IsName, IsCode, Content, Inside, Cut, places}
 use Rattle.asl_lexer.specs.Cut as g
 use Rattle.asl_lexer.proofs.Told.{tokens_are_cut}
-use Rattle.program_shapes.proofs.Kept.{HaveShortTexts}
+use Rattle.program_shapes.specs.Kept.{HaveShortTexts}
 
 -- ---- how many bytes stand before the line's end
 

@@ -7,9 +7,9 @@ use Rattle.iasl_messages.specs.declared.message.Message.{Message}
 use Rattle.asl_tree.specs.FieldItems.{FieldItem, behind_item}
 use Rattle.asl_tree.specs.declared.term.Op.{Op}
 use Rattle.asl_tree.specs.declared.term.Declaration.{Declaration}
-use Rattle.asl_terms.specs.Plans.{Plan, a_form, Plans, no_plans, plan, plan_at, number_of}
-use Rattle.asl_terms.specs.Terms.{fault_at}
-use Rattle.asl_terms.specs.Places.{AreTold}
+use Rattle.term_plans.specs.Plans.{Plan, a_form, Plans, no_plans, plan, plan_at, number_of}
+use Rattle.term_plans.specs.Places.{fault_at}
+use Rattle.term_plans.specs.Places.{AreTold}
 use Rattle.field_layout.specs.Layout.{item_fault}
 use Rattle.field_layout.specs.declared.segments.Said.{Said}
 use Rattle.field_layout.specs.Segments.{first_said, said_behind, item_fault as item_fault'}

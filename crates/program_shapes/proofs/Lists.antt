@@ -16,8 +16,8 @@ use Rattle.asl_tree.specs.declared.term.Symbolic.TheVariants as Symbolic
 use Rattle.acpi_values.specs.Operators.{row_of}
 use Rattle.asl_tree.specs.View.{form, apply_of, fits, operands_as, operated, symbol_of, buffer, body_bytes, counted, packaged, items_in}
 use Rattle.field_layout.specs.Layout.{item_fault, first_fault}
-use Rattle.asl_terms.specs.Plans.{Plan, a_unit, a_skip, an_offset, an_access, a_name, a_fill, a_form, Plans, no_plans, plan}
-use Rattle.asl_terms.specs.Terms.{fault_at}
+use Rattle.term_plans.specs.Plans.{Plan, a_unit, a_skip, an_offset, an_access, a_name, a_fill, a_form, Plans, no_plans, plan}
+use Rattle.term_plans.specs.Places.{fault_at}
 use Rattle.asl_numbers.specs.Numbers.{inside, nodes, numbered, numbered_all}
 use Rattle.field_checks.specs.Units.{unit_told, index_fault}
 use Rattle.field_checks.specs.Lists.{list_errors, field_errors, term_errors, all_errors}

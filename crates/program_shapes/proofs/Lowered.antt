@@ -1,4 +1,4 @@
--- A formed source, with its symbols named and its ElseIfs nested, is formed without them.
+-- A formed source, with its symbols named, is formed without them.
 use Rattle.std.proofs.Common.{◌≡◌, ℕ, zero, suc, Bool, true, false, List, [], ◌∷◌, Some, None, refl, sym, ap, ◌∙◌, subst}
 use Rattle.std.specs.Prelude.{if◌then◌else◌}
 use Rattle.acpi_values.specs.declared.operator.Plain.{Plain}
@@ -13,7 +13,7 @@ use Rattle.asl_tree.specs.Tree.{Tree, Integer, Constant, String, InSlot, Debug, 
 use Rattle.asl_tree.specs.Tree.{Operated, Assigned, AssignedBy, Trees, no_trees, tree, count, OperationRegion, Field, IndexField, BankField, CreateField, UnitName, If, ElseIf, Else, While, Break, Continue, Item, Switch, Case, Default, For, Print}
 use Rattle.aml_meaning.specs.Codes.{HasOwnCode}
 use Rattle.aml_sessions.specs.Ready.{is_expression, SpotReady}
-use Rattle.asl_lower.specs.Nodes.{given, last_target, applied, assigned, assigned_by, before, named, inner_args, named_args, named_all}
+use Rattle.asl_lower.specs.Nodes.{given, last_target, applied, assigned, assigned_by, named, inner_args, named_all}
 use Rattle.asl_lower.proofs.Declared.{count_args}
 use Rattle.asl_lower.proofs.Named.{compound_letters}
 use Rattle.named_sessions.specs.Shaped.{LetterShaped, ElementShaped, IsFormed, IsFormedSpot, IsFormedAlone, AreFormedOperands, AreFormedSpots, AreFormedValues, AreFormedElements, AreFormed, AreFormedCases, IsNumber, IsCaseMember, AreCaseMembers, HaveCaseMembers, IsCaseValue, StartsNoElse, IsFollowed}
@@ -102,28 +102,28 @@ module _ (Listed : List (FieldItem UnitName) → Type 0) (Switches : Type 0) whe
   letter_named (L.Raw size) (Raw other number) value spot h = h
   letter_named (L.Raw size) _ value spot h = absurd h
 
-  operated_spot : (op : Plain) (args : Trees) → (SourceOperands (row_of op).operands args → CoreOperands (row_of op).operands (named_args args))
-      → SourceSpot (Operated op args) → CoreSpot (applied op (named_args args) Omitted)
+  operated_spot : (op : Plain) (args : Trees) → (SourceOperands (row_of op).operands args → CoreOperands (row_of op).operands (named_all args))
+      → SourceSpot (Operated op args) → CoreSpot (applied op (named_all args) Omitted)
   operated_spot op args all h = (
     h.1,
     spot_by (spot_form op) (SourceOperands (row_of op).operands args) ⊥
-        (CoreOperands (row_of op).operands (named_args args) × (count (last_target (row_of op).targets Omitted) ≡ (row_of op).targets) × AreFormedSpots ⊥ Listed ⊥ Switches (last_target (row_of op).targets Omitted))
-        (IsFormedAlone ⊥ Listed ⊥ Switches (named_args args) (last_target (row_of op).targets Omitted))
+        (CoreOperands (row_of op).operands (named_all args) × (count (last_target (row_of op).targets Omitted) ≡ (row_of op).targets) × AreFormedSpots ⊥ Listed ⊥ Switches (last_target (row_of op).targets Omitted))
+        (IsFormedAlone ⊥ Listed ⊥ Switches (named_all args) (last_target (row_of op).targets Omitted))
         (λ r. (all r, last_count (row_of op).targets Omitted, last_spots (row_of op).targets Omitted tt)) (λ i. absurd i) h.2,
   )
 
   -- `X = E`, where E is no operator that takes X as its target
-  assigned_formed : (target value : Tree) → CoreSpot (named target) → CoreValue (named value) → ((op : Plain) (args : Trees) → value ≡ Operated op args → HasOwnCode op × CoreOperands (row_of op).operands (named_args args))
+  assigned_formed : (target value : Tree) → CoreSpot (named target) → CoreValue (named value) → ((op : Plain) (args : Trees) → value ≡ Operated op args → HasOwnCode op × CoreOperands (row_of op).operands (named_all args))
       → Core (assigned (target_operator value) (inner_args value) (named target) (named value))
   assigned_formed target (Operated op args) h v inner = by (takes_target op) (inner op args refl)
     where
-      by : (b : Bool) → HasOwnCode op × CoreOperands (row_of op).operands (named_args args) → Core (assigned (if b then Some op else None) (named_args args) (named target) (named (Operated op args)))
+      by : (b : Bool) → HasOwnCode op × CoreOperands (row_of op).operands (named_all args) → Core (assigned (if b then Some op else None) (named_all args) (named target) (named (Operated op args)))
       by true i = (i.0, i.1, last_count (row_of op).targets (named target), last_spots (row_of op).targets (named target) h)
       by false i = stored (named target) (named (Operated op args)) h v
   assigned_formed target value h v inner = stored (named target) (named value) h v
 
   abbrev InnerFormed : Tree → Type 0
-  InnerFormed (Operated op args) = HasOwnCode op × CoreOperands (row_of op).operands (named_args args)
+  InnerFormed (Operated op args) = HasOwnCode op × CoreOperands (row_of op).operands (named_all args)
   InnerFormed _ = Unit {0}
 
   mutual
@@ -136,7 +136,7 @@ module _ (Listed : List (FieldItem UnitName) → Type 0) (Switches : Type 0) whe
     value_named (Use at name) e h = (refl, h)
     value_named (Call at name args) e h = (refl, (h.0, values_named args h.1))
     value_named (Apply op args targets) e h = (refl, (h.0, operands_named (row_of op).operands args h.1, count_args targets ∙ h.2, spots_named targets h.3))
-    value_named (Operated op args) e h = (refl, applied_formed op (named_args args) Omitted h.1 (operands_named (row_of op).operands args h.2) tt)
+    value_named (Operated op args) e h = (refl, applied_formed op (named_all args) Omitted h.1 (operands_named (row_of op).operands args h.2) tt)
     value_named (Assigned target value) e h =
         (refl, assigned_formed target value (spot_named target h.1) (value_named value h.2 h.3) (λ op args is. inner_named value op args is h.3))
     value_named (AssignedBy op target value) e h =
@@ -147,7 +147,7 @@ module _ (Listed : List (FieldItem UnitName) → Type 0) (Switches : Type 0) whe
     value_named (CondRefOf place target) e h = (refl, (spot_named place h.0, spot_named target h.1))
     value_named _ e h = absurd cc
 
-    inner_named : (value : Tree) (op : Plain) (args : Trees) → value ≡ Operated op args → Source value → HasOwnCode op × CoreOperands (row_of op).operands (named_args args)
+    inner_named : (value : Tree) (op : Plain) (args : Trees) → value ≡ Operated op args → Source value → HasOwnCode op × CoreOperands (row_of op).operands (named_all args)
     inner_named (Operated op args) op' args' is h = subst InnerFormed is (h.1, operands_named (row_of op).operands args h.2)
     inner_named _ op args is h = absurd cc
 
@@ -159,29 +159,29 @@ module _ (Listed : List (FieldItem UnitName) → Type 0) (Switches : Type 0) whe
     spot_named (Apply op args targets) h = (
       h.0,
       spot_by (spot_form op) (SourceOperands (row_of op).operands args × (count targets ≡ (row_of op).targets) × AreFormedSpots ⊥ Listed (Unit {0}) Switches targets) (IsFormedAlone ⊥ Listed (Unit {0}) Switches args targets)
-          (CoreOperands (row_of op).operands (named_args args) × (count (named_args targets) ≡ (row_of op).targets) × AreFormedSpots ⊥ Listed ⊥ Switches (named_args targets)) (IsFormedAlone ⊥ Listed ⊥ Switches (named_args args) (named_args targets))
+          (CoreOperands (row_of op).operands (named_all args) × (count (named_all targets) ≡ (row_of op).targets) × AreFormedSpots ⊥ Listed ⊥ Switches (named_all targets)) (IsFormedAlone ⊥ Listed ⊥ Switches (named_all args) (named_all targets))
           (λ r. (operands_named (row_of op).operands args r.0, count_args targets ∙ r.1, spots_named targets r.2)) (λ i. alone_named args targets i) h.1,
     )
     spot_named (Operated op args) h = operated_spot op args (λ k. operands_named (row_of op).operands args k) h
     spot_named _ h = absurd h
 
-    alone_named : (args targets : Trees) → IsFormedAlone ⊥ Listed (Unit {0}) Switches args targets → IsFormedAlone ⊥ Listed ⊥ Switches (named_args args) (named_args targets)
+    alone_named : (args targets : Trees) → IsFormedAlone ⊥ Listed (Unit {0}) Switches args targets → IsFormedAlone ⊥ Listed ⊥ Switches (named_all args) (named_all targets)
     alone_named (tree t no_trees) no_trees h = value_named t h.0 h.1
     alone_named no_trees targets h = absurd h
     alone_named (tree t no_trees) (tree u us) h = absurd h
     alone_named (tree t (tree v vs)) targets h = absurd h
 
-    operands_named : (letters : List Letter) (ts : Trees) → SourceOperands letters ts → CoreOperands letters (named_args ts)
+    operands_named : (letters : List Letter) (ts : Trees) → SourceOperands letters ts → CoreOperands letters (named_all ts)
     operands_named [] no_trees h = tt
     operands_named [] (tree t ts) h = absurd h
     operands_named (letter ∷ letters) no_trees h = absurd h
     operands_named (letter ∷ letters) (tree t ts) h = (letter_named letter t (λ e k. value_named t e k) (λ k. spot_named t k) h.0, operands_named letters ts h.1)
 
-    spots_named : (ts : Trees) → AreFormedSpots ⊥ Listed (Unit {0}) Switches ts → AreFormedSpots ⊥ Listed ⊥ Switches (named_args ts)
+    spots_named : (ts : Trees) → AreFormedSpots ⊥ Listed (Unit {0}) Switches ts → AreFormedSpots ⊥ Listed ⊥ Switches (named_all ts)
     spots_named no_trees h = tt
     spots_named (tree t ts) h = (spot_named t h.0, spots_named ts h.1)
 
-    values_named : (ts : Trees) → AreFormedValues ⊥ Listed (Unit {0}) Switches ts → AreFormedValues ⊥ Listed ⊥ Switches (named_args ts)
+    values_named : (ts : Trees) → AreFormedValues ⊥ Listed (Unit {0}) Switches ts → AreFormedValues ⊥ Listed ⊥ Switches (named_all ts)
     values_named no_trees h = tt
     values_named (tree t ts) h = let v = value_named t h.0 h.1 in (v.0, v.1, values_named ts h.2)
 
@@ -195,15 +195,9 @@ module _ (Listed : List (FieldItem UnitName) → Type 0) (Switches : Type 0) whe
     element_named (VarPackage size elements) h = let s = value_named size h.1.0 h.1.1 in (refl, (s.0, s.1, elements_named elements h.1.2))
     element_named _ h = never h.0
 
-    elements_named : (ts : Trees) → AreFormedElements ⊥ Listed (Unit {0}) Switches ts → AreFormedElements ⊥ Listed ⊥ Switches (named_args ts)
+    elements_named : (ts : Trees) → AreFormedElements ⊥ Listed (Unit {0}) Switches ts → AreFormedElements ⊥ Listed ⊥ Switches (named_all ts)
     elements_named no_trees h = tt
     elements_named (tree t ts) h = (element_named t h.0, elements_named ts h.1)
-
-  -- a term before others: an ElseIf is an If in an Else, which takes the Else behind it
-  before_formed : (test : Tree) (body rest : Trees) → CoreValue test → AreFormed ⊥ Listed ⊥ Switches body → AreFormed ⊥ Listed ⊥ Switches rest → AreFormed ⊥ Listed ⊥ Switches (before (ElseIf test body) rest)
-  before_formed test body (tree (Else other) rest) v b h = (((v.0, v.1, b), tt, (h.0, tt, tt)), tt, h.2)
-  before_formed test body no_trees v b h = (((v.0, v.1, b), tt, tt), tt, h)
-  before_formed test body (tree t rest) v b h = (((v.0, v.1, b), tt, tt), tt, h)
 
   -- what stands behind a Switch
   no_else_named : (ts : Trees) → StartsNoElse ts → StartsNoElse (named_all ts)
@@ -224,11 +218,11 @@ module _ (Listed : List (FieldItem UnitName) → Type 0) (Switches : Type 0) whe
   member_named (Buffer size bytes) h = number_named size h
   member_named _ h = absurd h
 
-  members_named : (ts : Trees) → AreCaseMembers ts → AreCaseMembers (named_args ts)
+  members_named : (ts : Trees) → AreCaseMembers ts → AreCaseMembers (named_all ts)
   members_named no_trees h = tt
   members_named (tree t ts) h = (member_named t h.0, members_named ts h.1)
 
-  some_named : (ts : Trees) → HaveCaseMembers ts → HaveCaseMembers (named_args ts)
+  some_named : (ts : Trees) → HaveCaseMembers ts → HaveCaseMembers (named_all ts)
   some_named no_trees h = h
   some_named (tree t ts) h = members_named (tree t ts) h
 
@@ -246,58 +240,57 @@ module _ (Listed : List (FieldItem UnitName) → Type 0) (Switches : Type 0) whe
   followed_named _ ts h = tt
 
   mutual
-    term_named : (t : Tree) → Source t → (rest : Trees) → IsFollowed (named t) rest → AreFormed ⊥ Listed ⊥ Switches rest → AreFormed ⊥ Listed ⊥ Switches (before (named t) rest)
-    term_named (ElseIf test body) h rest f r = before_formed (named test) (named_all body) rest (value_named test h.1 h.2) (all_named body h.3) r
-    term_named (For start test step body) h rest f r = absurd h.0
-    term_named (Print place format args) h rest f r = absurd h.0
-    term_named (Switch value cases) h rest f r = let v = value_named value h.1 h.2 in ((h.0, v.0, v.1, cases_named cases h.3), f, r)
-    term_named (Case value body) h rest f r = absurd h
-    term_named (Default body) h rest f r = absurd h
-    term_named (Return value) h rest f r = (value_named value h.0 h.1, tt, r)
-    term_named (Name at name value) h rest f r = let v = value_named value h.1 h.2 in ((h.0, v.0, v.1), tt, r)
-    term_named (Alias from source at name) h rest f r = (h, tt, r)
-    term_named (External here at name type parameters) h rest f r = (h, tt, r)
-    term_named (Method at name flags body) h rest f r = ((h.0, h.1, all_named body h.2), tt, r)
-    term_named (Mutex at name level) h rest f r = (h, tt, r)
-    term_named (Event at name) h rest f r = (h, tt, r)
-    term_named (Container' kind at name body) h rest f r = ((h.0, h.1, all_named body h.2), tt, r)
-    term_named (Scope here at name body) h rest f r = ((h.0, all_named body h.1), tt, r)
-    term_named (If test body) h rest f r = let v = value_named test h.0 h.1 in ((v.0, v.1, all_named body h.2), tt, r)
-    term_named (Else body) h rest f r = (all_named body h, tt, r)
-    term_named (While test body) h rest f r = let v = value_named test h.0 h.1 in ((v.0, v.1, all_named body h.2), tt, r)
-    term_named Break h rest f r = (tt, tt, r)
-    term_named Continue h rest f r = (tt, tt, r)
-    term_named (OperationRegion at name space args) h rest f r = ((h.0, h.1, operands_named region_letters args h.2), tt, r)
-    term_named (Field here from region flags items) h rest f r = (h, tt, r)
-    term_named (IndexField here from index to register flags items) h rest f r = (h, tt, r)
-    term_named (BankField here from region to bank value flags items) h rest f r = let v = value_named value h.2 h.3 in ((h.0, h.1, v.0, v.1, h.4, h.5), tt, r)
-    term_named (CreateField form args at name) h rest f r = ((operands_named (field_letters form) args h.0, h.1), tt, r)
-    term_named Omitted h rest f r = absurd h
-    term_named (Raw size number) h rest f r = absurd h
-    term_named (Item item) h rest f r = absurd h
-    term_named (Fill bytes) h rest f r = absurd h
-    term_named Misshapen h rest f r = absurd h
-    term_named (Integer number) h rest f r = (h, tt, r)
-    term_named (Constant literal) h rest f r = (h, tt, r)
-    term_named (String text) h rest f r = (h, tt, r)
-    term_named (InSlot slot) h rest f r = (h, tt, r)
-    term_named Debug h rest f r = (h, tt, r)
-    term_named (Use at name) h rest f r = (h, tt, r)
-    term_named (Call at name args) h rest f r = ((value_named (Call at name args) refl h).1, tt, r)
-    term_named (Apply op args targets) h rest f r = ((value_named (Apply op args targets) refl h).1, tt, r)
-    term_named (Operated op args) h rest f r = ((value_named (Operated op args) refl h).1, tt, r)
-    term_named (Assigned target value) h rest f r = ((value_named (Assigned target value) refl h).1, tt, r)
-    term_named (AssignedBy op target value) h rest f r = ((value_named (AssignedBy op target value) refl h).1, tt, r)
-    term_named (Buffer size bytes) h rest f r = ((value_named (Buffer size bytes) refl h).1, tt, r)
-    term_named (Package n elements) h rest f r = ((value_named (Package n elements) refl h).1, tt, r)
-    term_named (VarPackage size elements) h rest f r = ((value_named (VarPackage size elements) refl h).1, tt, r)
-    term_named (CondRefOf place target) h rest f r = ((value_named (CondRefOf place target) refl h).1, tt, r)
+    term_named : (t : Tree) → Source t → Core (named t)
+    term_named (ElseIf test body) h = let v = value_named test h.0 h.1 in (v.0, v.1, all_named body h.2)
+    term_named (For start test step body) h = absurd h.0
+    term_named (Print place format args) h = absurd h.0
+    term_named (Switch value cases) h = let v = value_named value h.1 h.2 in (h.0, v.0, v.1, cases_named cases h.3)
+    term_named (Case value body) h = absurd h
+    term_named (Default body) h = absurd h
+    term_named (Return value) h = value_named value h.0 h.1
+    term_named (Name at name value) h = let v = value_named value h.1 h.2 in (h.0, v.0, v.1)
+    term_named (Alias from source at name) h = h
+    term_named (External here at name type parameters) h = h
+    term_named (Method at name flags body) h = (h.0, h.1, all_named body h.2)
+    term_named (Mutex at name level) h = h
+    term_named (Event at name) h = h
+    term_named (Container' kind at name body) h = (h.0, h.1, all_named body h.2)
+    term_named (Scope here at name body) h = (h.0, all_named body h.1)
+    term_named (If test body) h = let v = value_named test h.0 h.1 in (v.0, v.1, all_named body h.2)
+    term_named (Else body) h = all_named body h
+    term_named (While test body) h = let v = value_named test h.0 h.1 in (v.0, v.1, all_named body h.2)
+    term_named Break h = tt
+    term_named Continue h = tt
+    term_named (OperationRegion at name space args) h = (h.0, h.1, operands_named region_letters args h.2)
+    term_named (Field here from region flags items) h = h
+    term_named (IndexField here from index to register flags items) h = h
+    term_named (BankField here from region to bank value flags items) h = let v = value_named value h.2 h.3 in (h.0, h.1, v.0, v.1, h.4, h.5)
+    term_named (CreateField form args at name) h = (operands_named (field_letters form) args h.0, h.1)
+    term_named Omitted h = absurd h
+    term_named (Raw size number) h = absurd h
+    term_named (Item item) h = absurd h
+    term_named (Fill bytes) h = absurd h
+    term_named Misshapen h = absurd h
+    term_named (Integer number) h = h
+    term_named (Constant literal) h = h
+    term_named (String text) h = h
+    term_named (InSlot slot) h = h
+    term_named Debug h = h
+    term_named (Use at name) h = h
+    term_named (Call at name args) h = (value_named (Call at name args) refl h).1
+    term_named (Apply op args targets) h = (value_named (Apply op args targets) refl h).1
+    term_named (Operated op args) h = (value_named (Operated op args) refl h).1
+    term_named (Assigned target value) h = (value_named (Assigned target value) refl h).1
+    term_named (AssignedBy op target value) h = (value_named (AssignedBy op target value) refl h).1
+    term_named (Buffer size bytes) h = (value_named (Buffer size bytes) refl h).1
+    term_named (Package n elements) h = (value_named (Package n elements) refl h).1
+    term_named (VarPackage size elements) h = (value_named (VarPackage size elements) refl h).1
+    term_named (CondRefOf place target) h = (value_named (CondRefOf place target) refl h).1
 
     pub all_named : (ts : Trees) → AreFormed ⊥ Listed (Unit {0}) Switches ts → AreFormed ⊥ Listed ⊥ Switches (named_all ts)
     all_named no_trees h = tt
-    all_named (tree t ts) h = term_named t h.0 (named_all ts) (followed_named t ts h.1) (all_named ts h.2)
+    all_named (tree t ts) h = (term_named t h.0, followed_named t ts h.1, all_named ts h.2)
 
-    -- a Case and a Default stand alone in a list, as nothing takes what is behind them
     cases_named : (ts : Trees) → AreFormedCases ⊥ Listed (Unit {0}) Switches ts → AreFormedCases ⊥ Listed ⊥ Switches (named_all ts)
     cases_named no_trees h = tt
     cases_named (tree (Case value body) ts) h = (case_named value h.0, all_named body h.1, cases_named ts h.2)

@@ -12,7 +12,7 @@ use Rattle.asl_words.specs.declared.operator.Slot.TheVariants as slot
 use Rattle.asl_words.specs.Operators.{macro_parameters}
 use Rattle.asl_words.specs.Texts.{is_all_text}
 use Rattle.resource_macros.specs.Identifiers.{eisaid_of, uuid_of, utf16_of}
-use Rattle.asl_terms.specs.Plans.{a_fill, omitted, Plans, no_plans, plan, plan_at}
+use Rattle.term_plans.specs.Plans.{a_fill, omitted, Plans, no_plans, plan, plan_at}
 use Rattle.asl_shape.specs.Descriptors.{described, fills_of, names_from}
 use Rattle.asl_terms.specs.Terms.{fine, refused, macro_text, eisa_shape, uuid_shape, buffer_plan}
 use Rattle.asl_shape.specs.Shapes.{template_plan}

@@ -13,7 +13,7 @@ use Rattle.asl_prints.specs.Nodes.{is_continue, none_in}
 use Rattle.asl_prints.specs.Fits.{are, is_named_with, braced, braces_in, leaves, leaves_far}
 use Rattle.asl_prints.proofs.Continuing.{left_form}
 use Rattle.asl_prints.proofs.FarContinuing.{far_form}
-use Rattle.asl_terms.specs.Plans.{Plan, a_form, Plans, no_plans, plan}
+use Rattle.term_plans.specs.Plans.{Plan, a_form, Plans, no_plans, plan}
 use Rattle.asl_numbers.specs.Numbers.{inside, nodes, numbered, numbered_all}
 use Rattle.statement_checks.specs.declared.check.Around.{Around}
 use Rattle.statement_checks.specs.Statements.{around_body, misses_loop, told, loop_errors, term_errors, statement_errors, outside, errors_of_statements}

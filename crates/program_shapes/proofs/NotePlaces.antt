@@ -10,7 +10,7 @@ use Rattle.asl_tree.specs.Tree.{Trees}
 use Rattle.asl_meaning.specs.Declarations.{nothing_declared}
 use Rattle.asl_syntax.specs.Written.{Writtens}
 use Rattle.asl_syntax.specs.Within as source
-use Rattle.asl_terms.specs.Places.{AreTold}
+use Rattle.term_plans.specs.Places.{AreTold}
 use Rattle.asl_shape.specs.Forms.{terms_of}
 use Rattle.asl_numbers.specs.Numbers.{numbered_all}
 use Rattle.descriptor_fields.specs.Declaring.{declaring}

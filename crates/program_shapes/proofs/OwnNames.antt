@@ -7,7 +7,7 @@ use Rattle.std.proofs.lemmas.Str.Ascii.{IsAscii-nil, IsAscii-cons}
 use Rattle.asl_syntax.specs.declared.raw.Raw.{Raw}
 use Rattle.asl_syntax.specs.Written.{writtens}
 use Rattle.asl_words.specs.Operators.{block_parameters}
-use Rattle.asl_terms.specs.Plans.{Plans, no_plans, plan, text_of, plan_at}
+use Rattle.term_plans.specs.Plans.{Plans, no_plans, plan, text_of, plan_at}
 use Rattle.asl_words.specs.Texts.{is_all_text, is_text_byte}
 use Rattle.asl_shape.specs.Forms.{errors_at, args_of}
 use Rattle.program_shapes.specs.Kept.{IsKeptSource}

@@ -41,7 +41,7 @@ use Rattle.asl_words.specs.Paths.{path_of}
 use Rattle.asl_words.specs.Operators.{parameters_of, parameters_as, constant_size, body_of, body_as, role_of, plain_role, data_role, event_role, optional, place, target, expression}
 use Rattle.asl_syntax.specs.Written.{Writtens}
 use Rattle.acpi_values.specs.declared.width.Width.{Width}
-use Rattle.asl_terms.specs.Plans.{Plan, an_integer, a_text, a_form, Plans, no_plans, how_many}
+use Rattle.term_plans.specs.Plans.{Plan, an_integer, a_text, a_form, Plans, no_plans, how_many}
 use Rattle.asl_terms.specs.Terms.{Shaped, fine, refused, unformed, format_faults, number_shape, text_shape, string_shape, listed_shape}
 use Rattle.asl_terms.specs.Terms.{types_shape, are_all_types, known_plan, path_shape, settled, package_settled, arranged}
 use Rattle.asl_shape.specs.Shapes.{call_shape, form_shape, symbol_shape, item_shape, read_shape}

@@ -27,7 +27,7 @@ use Rattle.resource_layout.specs.declared.descriptor.Descriptor.{Descriptor}
 use Rattle.resource_layout.specs.declared.descriptor.Field.{Field}
 use Rattle.resource_layout.specs.Layout.{fields_of}
 use Rattle.asl_tree.specs.declared.term.NamedDescriptor.{NamedDescriptor}
-use Rattle.asl_terms.specs.Plans.{fill_of, named_of}
+use Rattle.term_plans.specs.Plans.{fill_of, named_of}
 use Rattle.asl_shape.specs.Descriptors.{own_bytes, is_name, segment_of, named_as, own_name, moved, names_from}
 use Rattle.word_meanings.specs.declared.meaning.Reading.{Reading}
 use Rattle.word_meanings.specs.declared.meaning.Reading.TheVariants as read
@@ -42,22 +42,24 @@ use Rattle.asl_shape.specs.declared.around.Around.{Around}
 use Rattle.asl_shape.specs.Around.{outside}
 use Rattle.asl_shape.specs.declared.fields.Due.{Due}
 use Rattle.asl_shape.specs.declared.fields.UnitName.{UnitName}
-use Rattle.asl_terms.specs.Plans.{Plan, an_integer, a_text, a_fill, a_name, an_access, omitted, Plans, no_plans, plan, plan_at, join, first_plans, first_alone, number_of, is_omitted, constant_of, plans_of}
+use Rattle.term_plans.specs.Plans.{Plan, an_integer, a_text, a_fill, a_name, an_access, omitted, Plans, no_plans, plan, plan_at, join, first_plans, first_alone, number_of, is_omitted, constant_of, plans_of}
 use Rattle.asl_words.specs.Paths.{path_of}
 use Rattle.asl_words.specs.declared.operator.FieldWord.{FieldWord}
 use Rattle.word_meanings.specs.declared.meaning.Meaning.{Meaning}
 use Rattle.asl_words.specs.Operators.{parameters_of, parameters_as, body_as, role_of, element_parameters, macro_parameters}
 use Rattle.asl_words.specs.Resources.{descriptor_parameters, descriptor_body}
 use Rattle.asl_terms.specs.Symbols.{symbol_of}
-use Rattle.asl_terms.specs.Terms.{Shaped, fine, refused, unformed, one_word, for_settled, nowhere, valued, evaluated, after, checked}
+use Rattle.asl_terms.specs.Terms.{Shaped, fine, refused, unformed, one_word, for_settled, valued, evaluated, after, checked}
+use Rattle.term_plans.specs.Places.{nowhere}
 use Rattle.asl_terms.specs.Terms.{is_member, is_given, count, are_all_types, number_shape, string_shape, text_shape, path_shape, known_plan}
-use Rattle.asl_terms.specs.Terms.{listed_shape, method_flags, one_plan, zero_plan, is_stated, stated_parameters}
+use Rattle.asl_terms.specs.Terms.{listed_shape, method_flags, zero_plan, is_stated, stated_parameters}
+use Rattle.term_plans.specs.Plans.{one_plan}
 use Rattle.asl_shape.specs.Shapes.{has_arguments, call_shape, read_shape, item_shape, form_shape}
 use Rattle.asl_terms.specs.Terms.{few_elements, settled, place_of, inside_of, is_element, field_flags, field_settled, macro_text}
 use Rattle.asl_terms.specs.Terms.{eisa_shape, uuid_shape, buffer_plan}
 use Rattle.asl_shape.specs.Shapes.{within, left_out, is_separator, is_listed, byte_slot, list_shape, skipped, run_after, bare, operands}
 use Rattle.asl_shape.specs.Shapes.{call_args, arguments, arguments_in, contents, members, terms, element_shape, macro_shape, template_shape}
-use Rattle.asl_shape.specs.Shapes.{descriptor_shape}
+use Rattle.asl_shape.specs.Shapes.{descriptor_shape, is_number_list}
 use Rattle.asl_terms.specs.Terms.{is_case_member, case_member, member_count, is_case_package, case_value, is_default_plan, default_last}
 use Rattle.asl_terms.specs.Terms.{arranged, accessed_as, connected_to, element_plan}
 use Rattle.asl_shape.specs.Shapes.{meaning_in, is_field_list, begin, field_slot, named_unit, unit_behind, whole_alone, of_bits, field_part}
@@ -401,7 +403,7 @@ module _ (files : ℕ) where
           let element : FieldWord → Shaped Plan = λ e. element_shape e (arguments (element_parameters e) place inside args) in
           let expanded : TextMacro → Shaped Plan = λ m. macro_shape (arguments (macro_parameters m) place inside args) in
           let template : Shaped Plan = template_shape place (contents (braces.Descriptors false) inside place body) in
-          let described : Descriptor → Shaped Plan = λ d. descriptor_shape d place (arguments (descriptor_parameters d) place inside args) (contents (descriptor_body d) inside place body) in
+          let described : Descriptor → Shaped Plan = λ d. descriptor_shape d place (is_number_list (descriptor_body d) body) (arguments (descriptor_parameters d) place inside args) (contents (descriptor_body d) inside place body) in
           item_in place (item_fault s inside.method meaning (has_arguments meaning (inside_of args)) (is_given body)) (read_shape s place w (reading_of s meaning (is_given args)) (call_args inside args) element expanded template described form)
           (read_in s place w (reading_of s meaning (is_given args)) (call_args inside args) element expanded template described form (call_args_in inside args h.1)
           (λ x. element_in x (arguments (element_parameters x) place inside args).made (arguments_within (element_parameters x) place inside args h.0 h.1))

@@ -12,7 +12,7 @@ use Rattle.asl_tree.specs.View.{form}
 use Rattle.asl_numbers.specs.Numbers.{inside, nodes, numbered, numbered_all}
 use Rattle.asl_words.specs.declared.operator.Parameter.{Parameter}
 use Rattle.asl_words.specs.declared.operator.Slot.{Slot}
-use Rattle.asl_terms.specs.Plans.{Plan, an_integer, a_text, a_word, a_local, an_arg, debug, omitted, a_name, a_call, a_form, Plans, no_plans, plan, how_many}
+use Rattle.term_plans.specs.Plans.{Plan, an_integer, a_text, a_word, a_local, an_arg, debug, omitted, a_name, a_call, a_form, Plans, no_plans, plan, how_many}
 use Rattle.program_shapes.proofs.Fits.{Fits, Takes, TreesFit}
 
 -- its tree is such, whatever the numbers of its nodes

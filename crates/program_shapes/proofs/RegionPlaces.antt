@@ -2,7 +2,7 @@
 use Rattle.std.specs.Prelude.{ℕ, ◌<◌}
 use Rattle.std.specs.List.{All}
 use Rattle.iasl_messages.specs.declared.message.Message.{Message}
-use Rattle.asl_terms.specs.Plans.{Plan, a_form, Plans, no_plans, plan}
+use Rattle.term_plans.specs.Plans.{Plan, a_form, Plans, no_plans, plan}
 use Rattle.asl_tree.specs.Tree.{Tree, Method, Container', Scope, Trees, no_trees, tree, Field, BankField, If, ElseIf, Else, While, For, Switch, Case, Default}
 use Rattle.named_sessions.specs.Places.{IsWithin, AreWithin}
 use Rattle.descriptor_shapes.specs.Places.{PlanWithin, PlansWithin}

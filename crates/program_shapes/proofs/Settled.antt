@@ -28,9 +28,11 @@ use Rattle.asl_prints.specs.Texts.{is_text}
 use Rattle.asl_prints.proofs.TextForms.{no_text_form}
 use Rattle.asl_words.specs.Operators.{asked, optional, further, expression, target, by_letter, parameters_as, declared, used, external, constant, parameters_of}
 use Rattle.acpi_values.specs.declared.width.Width.{Width}
-use Rattle.asl_terms.specs.Plans.{Plan, an_integer, a_text, omitted, a_form, Plans, no_plans, plan, number_of, plan_at, how_many, constant_of}
-use Rattle.asl_terms.specs.Terms.{nowhere, one_word, or_one, holes_in, counted, format_faults, settled, method_flags, field_flags}
-use Rattle.asl_terms.specs.Terms.{is_stated, one_plan, zero_plan, stated_parameters, few_elements, package_settled}
+use Rattle.term_plans.specs.Plans.{Plan, an_integer, a_text, omitted, a_form, Plans, no_plans, plan, number_of, plan_at, how_many, constant_of}
+use Rattle.term_plans.specs.Places.{nowhere}
+use Rattle.asl_terms.specs.Terms.{one_word, or_one, holes_in, counted, format_faults, settled, method_flags, field_flags}
+use Rattle.asl_terms.specs.Terms.{is_stated, zero_plan, stated_parameters, few_elements, package_settled}
+use Rattle.term_plans.specs.Plans.{one_plan}
 use Rattle.program_shapes.proofs.Fits.{Fits, TreesFit, IsThere, IsString, FormedValues, IsAtMost}
 use Rattle.program_shapes.proofs.Forms.{PrintedFit, PrintedIntoFit, Two, two, two_of, Three, three, three_of}
 use Rattle.program_shapes.proofs.Operators.{SettledFit, ExternalFit}

@@ -38,13 +38,14 @@ use Rattle.asl_shape.specs.declared.fields.Due.{Due}
 use Rattle.asl_shape.specs.declared.fields.UnitName.{UnitName}
 use Rattle.asl_syntax.specs.Written as piece
 use Rattle.asl_syntax.specs.Written.{Written, Writtens, WrittenGroup, item, apply, listed, comma, semicolon, empty, none, more, absent, given}
-use Rattle.asl_terms.specs.Plans.{Plan, omitted, a_name, a_fill, a_unit, a_skip, an_access, Plans, no_plans, plan, plan_at, join, number_of, how_many}
-use Rattle.asl_terms.specs.Terms.{Shaped, fine, refused, nowhere, is_given, inside_of, evaluated, checked, place_of}
-use Rattle.asl_shape.specs.Shapes.{is_empty, is_separator, has_arguments, takes, none_empty, is_call, left_out, joined, skipped, list_shape}
+use Rattle.term_plans.specs.Plans.{Plan, omitted, a_name, a_fill, a_unit, a_skip, an_access, Plans, no_plans, plan, plan_at, join, number_of, how_many}
+use Rattle.asl_terms.specs.Terms.{Shaped, fine, refused, is_given, inside_of, evaluated, checked, place_of}
+use Rattle.term_plans.specs.Places.{nowhere}
+use Rattle.asl_shape.specs.Shapes.{is_empty, is_separator, has_arguments, takes, none_empty, left_out, skipped, list_shape}
 use Rattle.asl_shape.specs.Shapes.{is_listed, byte_slot, run_after, within, form_shape, bare, operands, call_args, arguments, arguments_in}
 use Rattle.asl_shape.specs.Shapes.{contents, members}
-use Rattle.asl_terms.specs.Terms.{string_shape, fault_at, arranged, accessed_as, connected_to, element_plan}
-use Rattle.asl_shape.specs.Shapes.{terms, read_shape, element_shape, macro_shape, template_shape, descriptor_shape, meaning_in}
+use Rattle.asl_terms.specs.Terms.{string_shape, arranged, accessed_as, connected_to, element_plan}
+use Rattle.asl_shape.specs.Shapes.{terms, read_shape, element_shape, macro_shape, template_shape, descriptor_shape, is_number_list, meaning_in}
 use Rattle.asl_shape.specs.Shapes.{is_field_list, begin, field_slot, named_unit, unit_behind, of_bits, field_part, due_behind, elements}
 use Rattle.asl_shape.specs.Shapes.{cases, default_after, element_place, begun}
 use Rattle.word_meanings.specs.Meanings.{meaning_of, may_end, may_be, is_branch_role, reading_of, slot_as, is_word_of, is_whole, is_long_attribute}
@@ -201,7 +202,10 @@ bytes_fit : (inside : Around) (ws : Writtens) → EachMember ws → shapes.count
 bytes_fit inside none k lt h e = none_as (λ ts. length (body_bytes ts) ≤ ones_of W64) (omega arith)
 bytes_fit inside (more (piece.text p bytes) none) k lt h e = one_string inside p bytes k.0 e
 bytes_fit inside (more w none) k lt h e = numbers_fit inside (more w none) (h e) lt
-bytes_fit inside (more w (more v vs)) k lt h e = numbers_fit inside (more w (more v vs)) (h e) lt
+bytes_fit inside (more (piece.text p bytes) (more piece.comma none)) k lt h e = one_string inside p bytes k.0 e
+bytes_fit inside (more w (more piece.comma none)) k lt h e = numbers_fit inside (more w (more piece.comma none)) (h e) lt
+bytes_fit inside (more w (more v none)) k lt h e = numbers_fit inside (more w (more v none)) (h e) lt
+bytes_fit inside (more w (more v (more u us))) k lt h e = numbers_fit inside (more w (more v (more u us))) (h e) lt
 
 is_called : (m : Meaning) (ws : Writtens) → has_arguments m ws ≡ true → has_call m ≡ true → none_empty ws ≡ true
 is_called is.Name ws h e = (both_true (nat_le (shapes.count ws) 7) (none_empty ws) h).1
@@ -445,7 +449,7 @@ mutual
       let element : FieldWord → Shaped Plan = λ e. element_shape e (arguments (element_parameters e) at inside args) in
       let expanded : TextMacro → Shaped Plan = λ x. macro_shape (arguments (macro_parameters x) at inside args) in
       let template : Shaped Plan = template_shape at (contents (braces.Descriptors false) inside at body) in
-      let described : Descriptor → Shaped Plan = λ d. descriptor_shape d at (arguments (descriptor_parameters d) at inside args) (contents (descriptor_body d) inside at body) in
+      let described : Descriptor → Shaped Plan = λ d. descriptor_shape d at (is_number_list (descriptor_body d) body) (arguments (descriptor_parameters d) at inside args) (contents (descriptor_body d) inside at body) in
       item_fit (Loosely s) s inside.method m (has_arguments m (inside_of args)) (is_given body) at (read_shape s at w (reading_of s m (is_given args)) (call_args inside args) element expanded template described form)
       (λ may has f. read_fit s at w m (is_given args) (call_args inside args) element expanded template described form (meaning_ok w (is_given body)) (path_ok w)
       (λ c g. calls_fit inside args k.0 (is_called m (inside_of args) has c) g)

@@ -5,9 +5,9 @@ use Rattle.std.specs.List.{All}
 use Rattle.std.proofs.lemmas.List.Elements.{All-cons}
 use Rattle.iasl_messages.specs.declared.place.Place.{Place}
 use Rattle.iasl_messages.specs.declared.message.Message.{Message}
-use Rattle.asl_terms.specs.Plans.{Plan, an_arg, a_call, a_form, Plans, no_plans, plan}
+use Rattle.term_plans.specs.Plans.{Plan, an_arg, a_call, a_form, Plans, no_plans, plan}
 use Rattle.asl_syntax.specs.Within.{IsIn}
-use Rattle.asl_terms.specs.Places.{AreTold}
+use Rattle.term_plans.specs.Places.{AreTold}
 use Rattle.statement_checks.specs.declared.check.Around.{Around}
 use Rattle.statement_checks.specs.Statements.{around_body, misses_loop, told, term_errors, statement_errors, outside, errors_of_statements}
 use Rattle.descriptor_shapes.specs.Places.{PlanWithin, PlansWithin}

@@ -8,9 +8,9 @@ use Rattle.acpi_values.specs.declared.width.Width.{Width}
 use Rattle.asl_syntax.specs.Within.{IsIn}
 use Rattle.asl_tree.specs.declared.term.Op.{Op}
 use Rattle.asl_tree.specs.Tree.{Tree, Method, Container', Scope, If, ElseIf, Else, While, For, Switch, Case, Default, Trees, no_trees, tree}
-use Rattle.asl_terms.specs.Places.{AreTold}
-use Rattle.asl_terms.specs.Plans.{Plan, a_form, Plans, no_plans, plan, plan_at}
-use Rattle.asl_terms.specs.Terms.{nowhere}
+use Rattle.term_plans.specs.Places.{AreTold}
+use Rattle.term_plans.specs.Plans.{Plan, a_form, Plans, no_plans, plan, plan_at}
+use Rattle.term_plans.specs.Places.{nowhere}
 use Rattle.hidden_locals.specs.Switches.{is_enough}
 use Rattle.switch_loops.specs.Switched.{is_switch}
 use Rattle.switch_checks.specs.Told.{told}

@@ -3,7 +3,7 @@ use Rattle.std.proofs.Common.{◌≡◌, ℕ, ◌+◌, ◌≤◌, List, [], leng
 use Rattle.std.proofs.lemmas.Nat.{mod_below}
 use Rattle.acpi_values.specs.declared.width.Width.{Width}
 use Rattle.aml_code.specs.Header.{header_length, checksum_of, header_with}
-use Rattle.aml_meaning.specs.Encoded.{encoded_all}
+use Rattle.aml_meaning.specs.Encoded.{encoded_terms}
 use Rattle.aml_sessions.proofs.Tables.{definition_is, width_is, is_header}
 use Rattle.named_sessions.specs.Shaped.{AreFormed, AreNamed, AreShaped}
 use Rattle.named_sessions.proofs.Main.{is_faithful}
@@ -35,7 +35,7 @@ use Rattle.asl_tree.specs.Tree.{Trees}
 use Rattle.program_shapes.proofs.Lowered.{all_named}
 use Rattle.asl_syntax.specs.declared.raw.Raw.{Raw}
 use Rattle.asl_syntax.specs.Written.{writtens}
-use Rattle.asl_terms.specs.Plans.{plan_at, number_of}
+use Rattle.term_plans.specs.Plans.{plan_at, number_of}
 use Rattle.asl_shape.specs.Forms.{errors_at, args_of}
 use Rattle.program_shapes.specs.Kept.{IsKeptSource}
 use Rattle.program_shapes.proofs.Lists.{plans_laid}
@@ -92,7 +92,7 @@ does_as wrap fold short shorten items right kept within =
     let named = named_all loops in
     let lowered = lowered_in fold items in
     let core = core_in wrap fold items in
-    let content = encoded_all width short (spelled_in wrap fold shorten items) in
+    let content = encoded_terms width short (spelled_in wrap fold shorten items) in
     let size = header_length + length content in
     let header = header_with fields size (checksum_of (header_with fields size 0 ++ content)) in
     let small : length content ≤ 16777216 = omega (arith, within, length-append header content) in

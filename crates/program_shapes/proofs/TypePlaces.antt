@@ -7,8 +7,8 @@ use Rattle.acpi_values.specs.declared.width.Width.{Width}
 use Rattle.asl_tree.specs.Tree.{Trees}
 use Rattle.asl_tree.specs.declared.term.Op.{Op}
 use Rattle.asl_syntax.specs.Within.{IsIn}
-use Rattle.asl_terms.specs.Plans.{Plan, a_call, a_form, Plans, no_plans, plan, plan_at, constant_of}
-use Rattle.asl_terms.specs.Places.{AreTold}
+use Rattle.term_plans.specs.Plans.{Plan, a_call, a_form, Plans, no_plans, plan, plan_at, constant_of}
+use Rattle.term_plans.specs.Places.{AreTold}
 use Rattle.asl_numbers.specs.Numbers.{inside, nodes}
 use Rattle.name_entries.specs.declared.kind.ObjectType.{ObjectType as Named}
 use Rattle.type_checks.specs.Kinds.{is_place, wanted_of, kinds_of}

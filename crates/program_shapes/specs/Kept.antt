@@ -1,7 +1,9 @@
 -- What the parser keeps of its tree.
-use Rattle.std.specs.Prelude.{◌≡◌, ◌<◌, ◌≤◌, true, false, List, [], ◌∷◌, length}
+use Rattle.std.specs.Prelude.{◌≡◌, ◌<◌, ◌≤◌, ◌^◌, true, false, List, [], ◌∷◌, length}
+use Rattle.std.specs.List.{All}
 use Rattle.acpi_values.specs.Widths.{ones_of}
 use Rattle.acpi_values.specs.declared.width.Width.TheVariants.{W64}
+use Rattle.asl_lexer.specs.declared.token.Token.{Token}
 use Rattle.asl_syntax.specs.declared.raw.Raw.{Raw}
 use Rattle.asl_syntax.specs.Written as piece
 use Rattle.asl_syntax.specs.Written.{Written, Writtens, WrittenGroup, item, apply, none, more, absent, given, writtens}
@@ -45,3 +47,7 @@ IsKeptSource _ = Unit {0}
 abbrev pub AreKeptAlone : List Raw → Type 0
 AreKeptAlone [] = Unit {0}
 AreKeptAlone (raw ∷ raws) = IsKeptSource (writtens (alone raw)) × AreKeptAlone raws
+
+-- each text of a source is shorter than 2^32
+abbrev pub HaveShortTexts : List Token → Type 0
+HaveShortTexts tokens = All (λ token. length token.text < 2 ^ 32) tokens

@@ -6,7 +6,7 @@ use Rattle.acpi_values.specs.declared.width.Width.{Width}
 use Rattle.asl_tree.specs.Tree.{Trees}
 use Rattle.asl_meaning.specs.Declarations.{known_of, externals}
 use Rattle.aml_code.specs.Header.{HeaderFields, table_bytes, IsHeader}
-use Rattle.aml_meaning.specs.Encoded.{encoded_all}
+use Rattle.aml_meaning.specs.Encoded.{encoded_terms}
 use Rattle.aml_meaning.specs.ByteSession.{IsFaithful}
 use Rattle.named_sessions.specs.Core.{core_beside}
 use Rattle.asl_lower.specs.Nodes.{named_all}
@@ -16,7 +16,7 @@ use Rattle.asl_prints.specs.Forms.{formed_all}
 use Rattle.hidden_locals.specs.Switches.{without_switches}
 use Rattle.asl_syntax.specs.declared.raw.Raw.{Raw}
 use Rattle.asl_syntax.specs.Written.{writtens}
-use Rattle.asl_terms.specs.Plans.{Plans, plan_at, text_of, number_of}
+use Rattle.term_plans.specs.Plans.{Plans, plan_at, text_of, number_of}
 use Rattle.asl_shape.specs.Forms.{errors_at, alone, args_of, terms_of}
 use Rattle.asl_numbers.specs.Numbers.{numbered_all}
 use Rattle.descriptor_fields.specs.Declaring.{declaring}
@@ -131,7 +131,7 @@ spelled_in wrap fold shorten items = core_beside shorten (described_in items) (c
 -- caller's choice
 abbrev pub table_in : (wrap fold short shorten : Bool) → List Raw → List ℕ
 table_in wrap fold short shorten items =
-    table_bytes (fields_in items) (encoded_all (width_in items) short (spelled_in wrap fold shorten items))
+    table_bytes (fields_in items) (encoded_terms (width_in items) short (spelled_in wrap fold shorten items))
 
 -- nothing is wrong with its form, its names, those of its resource descriptors among these, how many arguments its
 -- calls have, its statements, the lists of its fields and their accesses, the kinds of its arguments, the lengths of

@@ -16,7 +16,7 @@ use Rattle.acpi_names.specs.declared.part.NameRole.{NameRole}
 use Rattle.acpi_names.specs.declared.part.NameRole.TheVariants as P
 use Rattle.acpi_names.specs.declared.part.What.TheVariants as W
 use Rattle.acpi_names.specs.Parts.{are, is_there, name_at, number_at, fitting, with_number, external_part, part_of}
-use Rattle.asl_terms.specs.Plans.{Plan, a_form, Plans, no_plans, plan, plan_at}
+use Rattle.term_plans.specs.Plans.{Plan, a_form, Plans, no_plans, plan, plan_at}
 use Rattle.asl_numbers.specs.Numbers.{inside, nodes, numbered, numbered_all}
 use Rattle.field_checks.specs.Lists.{term_errors}
 use Rattle.form_presence.specs.Present.{is_field, has_op, have_op}

@@ -15,7 +15,7 @@ use Rattle.asl_tree.specs.declared.term.Symbolic.TheVariants as Symbolic
 use Rattle.acpi_state.specs.Outcomes.{choose}
 use Rattle.asl_tree.specs.Tree.{At, Tree, Integer, String, Omitted, Use, Package, VarPackage, Misshapen, Trees, no_trees, tree, count, Field, IndexField, BankField, UnitName}
 use Rattle.acpi_names.specs.Parts.{part_of}
-use Rattle.asl_terms.specs.Plans.{Plan, a_form, Plans}
+use Rattle.term_plans.specs.Plans.{Plan, a_form, Plans}
 use Rattle.field_checks.specs.Lists.{term_errors}
 use Rattle.region_checks.specs.declared.measure.Extent.{Extent}
 use Rattle.region_checks.specs.Measures.{measures, part_measures}

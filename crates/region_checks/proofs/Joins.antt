@@ -14,7 +14,7 @@ use Rattle.asl_tree.specs.Tree.{At, Tree, Use, Call, Apply, Buffer, Package, Var
 use Rattle.asl_meaning.specs.Declarations.{Declarations, scope_path, declare}
 use Rattle.acpi_names.specs.Errors.{Asked, Anything, AnObject, AValue, AMutex, AnEvent, AUnit, ARegion, asked_by}
 use Rattle.acpi_names.specs.Mentions.{Mention, Used', is_spot, is_use, asks, asked_value, asked_use, letter_mention, cond_place, mentions, mentions_all, operand_mentions, target_mentions, element_mentions, item_mentions, term_mentions, block_mentions}
-use Rattle.asl_terms.specs.Plans.{Plan, Plans, plan_at}
+use Rattle.term_plans.specs.Plans.{Plan, Plans, plan_at}
 use Rattle.region_checks.specs.declared.measure.Extent.{Extent}
 use Rattle.region_checks.specs.Sites.{Site, RegionAt, FieldIn, body_of, rest_of, region_size, field_access, field_units, sites, sites_all}
 use Rattle.region_checks.specs.Measures.{measures, measures_all, joined}

@@ -4,7 +4,7 @@ use Rattle.std.specs.Prelude.{slice_get}
 use Rattle.std.specs.Result.{result_ok}
 use Rattle.asl_tree.specs.declared.term.Node.{Node}
 use Rattle.acpi_values.specs.declared.width.Width.{Width}
-use Rattle.asl_terms.specs.Plans.{plan_of, plans_of, plan_at, constant_of}
+use Rattle.term_plans.specs.Plans.{plan_of, plans_of, plan_at, constant_of}
 
 abbrev or_node : Node → Option Node → Node
 or_node node None = node

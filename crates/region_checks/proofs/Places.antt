@@ -3,14 +3,14 @@ use Rattle.std.proofs.Common.{ℕ, ◌%◌, List, [], ◌∷◌, ◌++◌, Optio
 use Rattle.acpi_values.specs.Paths.{AbsolutePath}
 use Rattle.iasl_messages.specs.declared.message.Message.{Message}
 use Rattle.iasl_messages.specs.declared.place.Place.{Place}
-use Rattle.asl_syntax.specs.Within.{IsIn}
+use Rattle.term_plans.specs.Places.{IsIn}
 use Rattle.acpi_values.specs.declared.width.Width.{Width}
 use Rattle.asl_tree.specs.Names.{declared_path}
 use Rattle.asl_tree.specs.Tree.{Tree, Method, Container', Scope, Trees, no_trees, tree, OperationRegion, Field, BankField, If, ElseIf, Else, While, For, Switch, Case, Default}
 use Rattle.asl_meaning.specs.Declarations.{Declarations, scope_path, declare, nothing_declared}
 use Rattle.acpi_names.specs.Errors.{Whole, whole_of, name_end}
-use Rattle.asl_terms.specs.Places.{AreTold}
-use Rattle.asl_terms.specs.Plans.{Plan, a_form, Plans, no_plans, plan, plan_at}
+use Rattle.term_plans.specs.Places.{AreTold}
+use Rattle.term_plans.specs.Plans.{Plan, a_form, Plans, no_plans, plan, plan_at}
 use Rattle.field_layout.specs.Layout.{region_fault}
 use Rattle.field_layout.specs.declared.segments.Said.{Said}
 use Rattle.field_layout.specs.Segments.{first_said, said_behind, item_fault}

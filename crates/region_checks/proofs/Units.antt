@@ -9,7 +9,7 @@ use Rattle.acpi_state.specs.Access.{is_buffer_space}
 use Rattle.acpi_values.specs.Paths.{AbsolutePath}
 use Rattle.iasl_messages.specs.declared.message.Message.{Message}
 use Rattle.iasl_messages.specs.declared.place.Place.{Place}
-use Rattle.asl_terms.specs.Plans.{Plan, Plans, no_plans, plan}
+use Rattle.term_plans.specs.Plans.{Plan, Plans, no_plans, plan}
 use Rattle.field_layout.specs.declared.segments.SerialItem.{SerialItem}
 use Rattle.field_layout.specs.declared.segments.SerialItem.TheVariants as Item
 use Rattle.field_layout.specs.declared.segments.Said.{Said}

@@ -25,8 +25,8 @@ use Rattle.acpi_names.specs.Parts.{part_of}
 use Rattle.acpi_names.specs.Shown.{shown, all_shown}
 use Rattle.acpi_names.specs.declared.mention.Mention.{Mention as CodeMention}
 use Rattle.acpi_names.proofs.Trees.{form_tree, call_tree}
-use Rattle.asl_terms.specs.Plans.{Plan, a_form, Plans, plan_of, plans_of}
-use Rattle.asl_terms.proofs.Plans.{plan_form}
+use Rattle.term_plans.specs.Plans.{Plan, a_form, Plans, plan_of, plans_of}
+use Rattle.term_plans.proofs.Plans.{plan_form}
 use Rattle.asl_numbers.specs.Numbers.{inside, nodes}
 use Rattle.field_checks.specs.Lists.{term_errors, all_errors}
 use Rattle.name_kinds.proofs.Places.{next_dropped}

@@ -20,7 +20,7 @@ use Rattle.acpi_names.specs.declared.part.What.{What}
 use Rattle.acpi_names.specs.declared.part.What.TheVariants as W
 use Rattle.acpi_names.specs.declared.part.Over.TheVariants as O
 use Rattle.acpi_values.specs.declared.width.Width.{Width}
-use Rattle.asl_terms.specs.Plans.{Plan, Plans, plan_at, constant_of}
+use Rattle.term_plans.specs.Plans.{Plan, Plans, plan_at, constant_of}
 use Rattle.field_layout.specs.declared.segments.Said.{Said}
 use Rattle.field_layout.specs.Segments.{first_said}
 use Rattle.field_checks.specs.declared.units.UnitFault.{UnitFault}

@@ -1,7 +1,7 @@
 -- Where the fields of a block stand.
 use Rattle.std.specs.Prelude.{ℕ}
-use Rattle.asl_syntax.specs.Within.{IsIn}
-use Rattle.asl_terms.specs.Plans.{Plan, a_form, Plans, no_plans, plan}
+use Rattle.term_plans.specs.Places.{IsIn}
+use Rattle.term_plans.specs.Plans.{Plan, a_form, Plans, no_plans, plan}
 use Rattle.asl_tree.specs.Tree.{Tree, Method, Container', Scope, Trees, no_trees, tree, Field, BankField, If, ElseIf, Else, While, For}
 use Rattle.asl_tree.specs.Tree.{Switch, Case, Default}
 

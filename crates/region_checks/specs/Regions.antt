@@ -8,8 +8,8 @@ use Rattle.acpi_state.specs.Objects.{Object, lookup}
 use Rattle.asl_tree.specs.Tree.{Trees}
 use Rattle.asl_meaning.specs.Declarations.{nothing_declared}
 use Rattle.acpi_names.specs.Errors.{Whole, whole_of, name_end}
-use Rattle.asl_terms.specs.Plans.{Plans}
-use Rattle.asl_terms.specs.Terms.{fault_at}
+use Rattle.term_plans.specs.Plans.{Plans}
+use Rattle.term_plans.specs.Places.{fault_at}
 use Rattle.field_layout.specs.Layout.{region_fault}
 use Rattle.acpi_state.specs.Outcomes.{choose}
 use Rattle.name_kinds.specs.Kinds.{space_of}

@@ -12,7 +12,7 @@ use Rattle.asl_tree.specs.Tree.{At, Tree, Method, Container', Scope, Trees, no_t
 use Rattle.asl_tree.specs.Tree.{Else, While, For, Switch, Case, Default}
 use Rattle.asl_meaning.specs.Declarations.{As, Declarations, with_declared, scope_path, declare}
 use Rattle.acpi_values.specs.declared.width.Width.{Width}
-use Rattle.asl_terms.specs.Plans.{Plan, a_form, Plans, no_plans, plan, plan_at, constant_of}
+use Rattle.term_plans.specs.Plans.{Plan, a_form, Plans, no_plans, plan, plan_at, constant_of}
 use Rattle.field_layout.specs.Segments.{first_said}
 use Rattle.field_checks.specs.declared.units.UnitFault.{UnitFault}
 use Rattle.field_checks.specs.Units.{unit_fault}

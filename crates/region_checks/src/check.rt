@@ -3,8 +3,8 @@ ghost use Rattle.std.specs.Prelude.{◌≡◌, ◌++◌, ℕ, List, [], length, 
 ghost use Rattle.acpi_values.specs.Paths.{AbsolutePath};
 ghost use Rattle.acpi_state.specs.Objects.{lookup};
 ghost use Rattle.asl_tree.specs.View.{trees_of};
-ghost use Rattle.asl_terms.specs.Places.{AreTold};
-ghost use Rattle.asl_terms.specs.Plans.{plans_of};
+ghost use Rattle.term_plans.specs.Places.{AreTold};
+ghost use Rattle.term_plans.specs.Plans.{plans_of};
 ghost use Rattle.asl_meaning.specs.Declarations.{nothing_declared};
 ghost use Rattle.acpi_names.specs.Errors.{Whole, name_end};
 ghost use Rattle.acpi_names.specs.Mentions.{after_all, block_mentions};

@@ -5,7 +5,7 @@ ghost use Rattle.std.specs.Result.{result_ok};
 ghost use Rattle.acpi_state.specs.Access.{access_bytes as bytes_of};
 ghost use Rattle.asl_tree.specs.View.{trees_of};
 ghost use Rattle.acpi_names.specs.Parts.{is_item_list, is_item_term, part_of};
-ghost use Rattle.asl_terms.specs.Plans.{plan_of, plans_of, plan_at, constant_of};
+ghost use Rattle.term_plans.specs.Plans.{plan_of, plans_of, plan_at, constant_of};
 ghost use Rattle.field_checks.specs.Lists.{all_errors};
 ghost use Rattle.region_checks.specs.Measures as spec;
 ghost use Rattle.region_checks.specs.Sites.{if_none};
@@ -71,7 +71,7 @@ fn node_at(nodes: &[Node], place: usize) -> Option<&Node>
 }
 
 // The value of a constant at a width.
-#[tactic(auto, using(asl_terms::proofs::Constants::constant_is))]
+#[tactic(auto, using(term_plans::proofs::Constants::constant_is))]
 fn constant_in(width: Width, term: &Term) -> Option<u64>
     ensures { result ≡ result_ok (constant_of width (plan_of term.now)) }
 {

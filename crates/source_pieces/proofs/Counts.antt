@@ -1,5 +1,5 @@
 -- A source's core has as many pieces as places.
-use Rattle.std.proofs.Common.{◌≡◌, ℕ, suc, ◌+◌, Bool, true, false, List, [], ◌∷◌, length, Option, Some, None, refl, sym, ap, ◌∙◌, subst, arith, length-append}
+use Rattle.std.proofs.Common.{◌≡◌, ℕ, suc, ◌+◌, Bool, true, false, List, [], ◌∷◌, length, Some, refl, sym, ap, ◌∙◌, subst, arith, length-append}
 use Rattle.std.specs.Prelude.{nat_le, ◌||◌, if◌then◌else◌, not, ◌++◌}
 use Rattle.iasl_messages.specs.declared.place.Place.{Place}
 use Rattle.acpi_values.specs.Paths.{AbsolutePath}
@@ -16,17 +16,17 @@ use Rattle.acpi_names.specs.Spelled.{inner_scope, spelled, spelled_all}
 use Rattle.named_sessions.specs.Core.{says_of, core_beside}
 use Rattle.asl_fold.specs.declared.fate.Fate.{Fate}
 use Rattle.asl_fold.specs.Folds.{fate_of, replaced, reduced, sized, folded, folded_args, folded_all, folded_where}
-use Rattle.asl_lower.specs.Nodes.{before, named, named_all}
+use Rattle.asl_lower.specs.Nodes.{named, named_all}
 use Rattle.asl_lower.specs.Nests.{joined}
 use Rattle.wrapped_externals.specs.Wraps.{starts_branch, leading, in_if, wrapped, behind, wrapped_all, wrapped_where}
 use Rattle.wrapped_externals.specs.Starts.{is_free, inner_starts, starts, with_ifs, placed_where}
-use Rattle.asl_terms.specs.Plans.{Plan, a_name, a_unit, a_call, a_form, Plans, no_plans, plan}
+use Rattle.term_plans.specs.Plans.{Plan, a_name, a_unit, a_call, a_form, Plans, no_plans, plan}
 use Rattle.asl_numbers.specs.Numbers.{inside as within, nodes, numbered, numbered_all}
 use Rattle.hidden_locals.specs.Crossing.{has_continue, have_continue}
-use Rattle.hidden_locals.specs.Turns.{Plan as Turns, value_local, then_trees, else_of, loop_of, loop_terms, continue_terms}
-use Rattle.hidden_locals.specs.Switches.{plan_of, chain_of, unswitched_all, links, default_link, without_switches}
+use Rattle.hidden_locals.specs.Turns.{Plan as Turns, value_local, then_trees, loop_of, loop_terms, continue_terms}
+use Rattle.hidden_locals.specs.Switches.{plan_of, opened, unswitched_all, links, default_link, without_switches}
 use Rattle.switch_loops.specs.declared.kind.TermRole.{TermRole}
-use Rattle.switch_loops.specs.Places.{Following, chain_places, else_places, turn_places, loop_places, continue_places}
+use Rattle.switch_loops.specs.Places.{DefaultPlaces, chain_places, else_places, turn_places, loop_places, continue_places}
 use Rattle.switch_loops.proofs.KindRows.{tree_kind}
 use Rattle.named_sessions.specs.Shaped.{AreNamed, AreFormed}
 use Rattle.asl_prints.specs.Forms.{formed_all}
@@ -35,8 +35,8 @@ use Rattle.asl_prints.proofs.PlanTrees.{Stands, StandAll}
 use Rattle.asl_formats.proofs.PlanForms.{formed_stand}
 use Rattle.form_shapes.specs.Near.{AreNear}
 use Rattle.form_shapes.proofs.Formed.{forms_formed}
-use Rattle.aml_writer.specs.Cuts.{cut, cut_all}
-use Rattle.source_pieces.specs.Places.{is_left, are_left, steps_inside, is_inside, form_at, case_at, core_places_at, core_places_in, cases_in, core_places}
+use Rattle.aml_writer.specs.Cuts.{cut, cut_all, run_length}
+use Rattle.source_pieces.specs.Places.{is_left, are_left, steps_inside, is_inside, form_at, case_at, default_at, core_places_at, core_places_in, cases_in, default_in, core_places}
 use Rattle.source_pieces.proofs.Stepped.{core_formed}
 use Rattle.source_pieces.proofs.Forms.{Formed, FormedTerms, FormedCases, plain_kind, form_left, not_among, case_left}
 
@@ -47,6 +47,7 @@ abbrev mutual
   cuts (Container' kind at name body) = suc (all_cuts body)
   cuts (Scope here at name body) = suc (all_cuts body)
   cuts (If test body) = suc (all_cuts body)
+  cuts (ElseIf test body) = suc (all_cuts body)
   cuts (Else body) = suc (all_cuts body)
   cuts (While test body) = suc (all_cuts body)
   cuts _ = 1
@@ -59,18 +60,19 @@ abbrev mutual
 
 module _ (width : Width) (short : Bool) where
   mutual
-    cut_count : (t : Tree) → length (cut width short t) ≡ cuts t
-    cut_count (Method at name flags body) = ap suc (cut_counts body)
-    cut_count (Container' kind at name body) = ap suc (cut_counts body)
-    cut_count (Scope here at name body) = ap suc (cut_counts body)
-    cut_count (If test body) = ap suc (cut_counts body)
-    cut_count (Else body) = ap suc (cut_counts body)
-    cut_count (While test body) = ap suc (cut_counts body)
-    cut_count t = refl
+    cut_count : (later : ℕ) (t : Tree) → length (cut width short later t) ≡ cuts t
+    cut_count later (Method at name flags body) = ap suc (cut_counts body)
+    cut_count later (Container' kind at name body) = ap suc (cut_counts body)
+    cut_count later (Scope here at name body) = ap suc (cut_counts body)
+    cut_count later (If test body) = ap suc (cut_counts body)
+    cut_count later (ElseIf test body) = ap suc (cut_counts body)
+    cut_count later (Else body) = ap suc (cut_counts body)
+    cut_count later (While test body) = ap suc (cut_counts body)
+    cut_count later t = refl
 
     pub cut_counts : (ts : Trees) → length (cut_all width short ts) ≡ all_cuts ts
     cut_counts no_trees = refl
-    cut_counts (tree t ts) = length-append (cut width short t) (cut_all width short ts) ∙ ap (λ n. n + length (cut_all width short ts)) (cut_count t) ∙ ap (λ n. cuts t + n) (cut_counts ts)
+    cut_counts (tree t ts) = length-append (cut width short (run_length width short ts) t) (cut_all width short ts) ∙ ap (λ n. n + length (cut_all width short ts)) (cut_count (run_length width short ts) t) ∙ ap (λ n. cuts t + n) (cut_counts ts)
 
 -- ---- names are spelled
 
@@ -81,6 +83,7 @@ module _ (shorten : Bool) (also has : AbsolutePath → Bool) (says : AbsolutePat
     spelled_count (Container' kind at name body) scope = ap suc (spelled_counts body (declared_path name scope))
     spelled_count (Scope here at name body) scope = ap suc (spelled_counts body (inner_scope has name scope))
     spelled_count (If test body) scope = ap suc (spelled_counts body scope)
+    spelled_count (ElseIf test body) scope = ap suc (spelled_counts body scope)
     spelled_count (Else body) scope = ap suc (spelled_counts body scope)
     spelled_count (While test body) scope = ap suc (spelled_counts body scope)
     spelled_count t scope = refl
@@ -120,6 +123,7 @@ module _ (width : Width) where
     folded_count statement (Container' kind at name body) = ap suc (folded_counts body)
     folded_count statement (Scope here at name body) = ap suc (folded_counts body)
     folded_count statement (If test body) = ap suc (folded_counts body)
+    folded_count statement (ElseIf test body) = ap suc (folded_counts body)
     folded_count statement (Else body) = ap suc (folded_counts body)
     folded_count statement (While test body) = ap suc (folded_counts body)
     folded_count statement t = refl
@@ -132,112 +136,73 @@ pub where_counts : (fold : Bool) (width : Width) (ts : Trees) → all_cuts (fold
 where_counts true width ts = folded_counts width ts
 where_counts false width ts = refl
 
--- ---- symbols are named: an ElseIf is two terms
-
-abbrev mutual
-  lows : Tree → ℕ
-  lows (Method at name flags body) = suc (all_lows body)
-  lows (Container' kind at name body) = suc (all_lows body)
-  lows (Scope here at name body) = suc (all_lows body)
-  lows (If test body) = suc (all_lows body)
-  lows (ElseIf test body) = suc (suc (all_lows body))
-  lows (Else body) = suc (all_lows body)
-  lows (While test body) = suc (all_lows body)
-  lows _ = 1
-
-  all_lows : Trees → ℕ
-  all_lows no_trees = 0
-  all_lows (tree t ts) = lows t + all_lows ts
-
--- a term before others
-abbrev put_cuts : Tree → ℕ
-put_cuts (ElseIf test body) = suc (suc (all_cuts body))
-put_cuts t = cuts t
-
-before_count : (t : Tree) (rest : Trees) → all_cuts (before t rest) ≡ put_cuts t + all_cuts rest
-before_count (ElseIf test body) (tree (Else other) rest) = omega arith
-before_count (ElseIf test body) rest = omega arith
-before_count t rest = refl
+-- ---- symbols are named
 
 mutual
-  named_count : (t : Tree) → put_cuts (named t) ≡ lows t
+  named_count : (t : Tree) → cuts (named t) ≡ cuts t
   named_count (Method at name flags body) = ap suc (named_counts body)
   named_count (Container' kind at name body) = ap suc (named_counts body)
   named_count (Scope here at name body) = ap suc (named_counts body)
   named_count (If test body) = ap suc (named_counts body)
-  named_count (ElseIf test body) = ap (λ n. suc (suc n)) (named_counts body)
+  named_count (ElseIf test body) = ap suc (named_counts body)
   named_count (Else body) = ap suc (named_counts body)
   named_count (While test body) = ap suc (named_counts body)
   named_count t = refl
 
-  named_counts : (ts : Trees) → all_cuts (named_all ts) ≡ all_lows ts
+  named_counts : (ts : Trees) → all_cuts (named_all ts) ≡ all_cuts ts
   named_counts no_trees = refl
-  named_counts (tree t ts) = before_count (named t) (named_all ts) ∙ ap (λ n. n + all_cuts (named_all ts)) (named_count t) ∙ ap (λ n. lows t + n) (named_counts ts)
+  named_counts (tree t ts) = ap (λ n. n + all_cuts (named_all ts)) (named_count t) ∙ ap (λ n. cuts t + n) (named_counts ts)
 
 -- ---- loops stand for Switches
 
-then_lows : (ts us : Trees) → all_lows (then_trees ts us) ≡ all_lows ts + all_lows us
-then_lows no_trees us = omega arith
-then_lows (tree t ts) us = let more = then_lows ts us in omega (arith, more)
+then_cuts : (ts us : Trees) → all_cuts (then_trees ts us) ≡ all_cuts ts + all_cuts us
+then_cuts no_trees us = omega arith
+then_cuts (tree t ts) us = let more = then_cuts ts us in omega (arith, more)
 
-turn_lows : (value l : Tree) (chain : Trees) (place : Place) (places : List Place) → all_lows chain ≡ length places → lows (loop_of value l chain) ≡ length (turn_places place places)
-turn_lows value l chain place places e = ap (λ n. suc (1 + n)) (then_lows chain (tree Break no_trees) ∙ ap (λ n. n + 1) e ∙ sym (length-append places (place ∷ []))) ∙ omega arith
+turn_cuts : (value l : Tree) (chain : Trees) (place : Place) (places : List Place) → all_cuts chain ≡ length places → cuts (loop_of value l chain) ≡ length (turn_places place places)
+turn_cuts value l chain place places e = ap (λ n. suc (1 + n)) (then_cuts chain (tree Break no_trees) ∙ ap (λ n. n + 1) e ∙ sym (length-append places (place ∷ []))) ∙ omega arith
 
-loop_lows : (turns : Turns) (left inside : Bool) (loop : Tree) (rest : Trees) (place : Place) (turn : List Place) → lows loop ≡ length turn → all_lows (loop_terms turns left inside loop rest) ≡ length (loop_places left inside place turn) + all_lows rest
-loop_lows turns false inside loop rest place turn e = ap (λ n. n + all_lows rest) e
-loop_lows turns true false loop rest place turn e = let longer = length-append turn (place ∷ place ∷ place ∷ []) in omega (arith, e, longer)
-loop_lows turns true true loop rest place turn e = let longer = length-append turn (place ∷ place ∷ []) in omega (arith, e, longer)
+loop_cuts : (turns : Turns) (left inside : Bool) (loop : Tree) (rest : Trees) (place : Place) (turn : List Place) → cuts loop ≡ length turn → all_cuts (loop_terms turns left inside loop rest) ≡ length (loop_places left inside place turn) + all_cuts rest
+loop_cuts turns false inside loop rest place turn e = ap (λ n. n + all_cuts rest) e
+loop_cuts turns true false loop rest place turn e = let longer = length-append turn (place ∷ place ∷ place ∷ []) in omega (arith, e, longer)
+loop_cuts turns true true loop rest place turn e = let longer = length-append turn (place ∷ place ∷ []) in omega (arith, e, longer)
 
-continue_lows : (turns : Turns) (inside : Bool) (rest : Trees) (place : Place) → all_lows (continue_terms turns inside rest) ≡ length (continue_places inside place) + all_lows rest
-continue_lows turns false rest place = refl
-continue_lows turns true rest place = omega arith
-
--- as many terms as places
-abbrev AsMany : Option Trees → Following → Type 0
-AsMany None None = Unit {0}
-AsMany (Some terms) (Some link) = all_lows terms ≡ length link.1
-AsMany _ _ = ⊥
-
-chain_lows : (o : Option Trees) (f : Following) → AsMany o f → all_lows (chain_of o) ≡ length (chain_places f)
-chain_lows None None h = refl
-chain_lows None (Some link) h = absurd h
-chain_lows (Some terms) None h = absurd h
-chain_lows (Some terms) (Some link) h = h
-
-else_lows : (o : Option Trees) (f : Following) → AsMany o f → all_lows (else_of o) ≡ length (else_places f)
-else_lows None None h = refl
-else_lows None (Some link) h = absurd h
-else_lows (Some terms) None h = absurd h
-else_lows (Some terms) (Some link) h = omega (arith, h)
+continue_cuts : (turns : Turns) (inside : Bool) (rest : Trees) (place : Place) → all_cuts (continue_terms turns inside rest) ≡ length (continue_places inside place) + all_cuts rest
+continue_cuts turns false rest place = refl
+continue_cuts turns true rest place = omega arith
 
 -- what stands for terms, and for the Cases of a Switch
 abbrev AreTurned : Trees → (Bool → List Place) → Type 0
-AreTurned terms places = (turns : Turns) (level : ℕ) (inside : Bool) → all_lows (unswitched_all turns level inside terms) ≡ length (places inside)
+AreTurned terms places = (turns : Turns) (level : ℕ) (inside : Bool) → all_cuts (unswitched_all turns level inside terms) ≡ length (places inside)
 
-abbrev AreLinked : Trees → Following → Type 0
-AreLinked cases following = (turns : Turns) (level : ℕ) → AsMany (links turns level cases (default_link turns level cases)) following
+-- the branches with an Else, and as they stand where no If is before them
+abbrev AsMany : Trees → List Place → DefaultPlaces → Type 0
+AsMany branches cases default = (all_cuts branches ≡ length (cases ++ else_places default)) × (all_cuts (opened branches) ≡ length (chain_places cases default))
 
-alone_lows : (t : Tree) (turns : Turns) (level : ℕ) (inside : Bool) (rest : Trees) → tree_kind t ≡ TermRole.Other → all_lows (unswitched_all turns level inside (tree t rest)) ≡ 1 + all_lows (unswitched_all turns level inside rest)
-alone_lows (Method at name flags body) turns level inside rest e = absurd cc
-alone_lows (Container' kind at name body) turns level inside rest e = absurd cc
-alone_lows (Scope here at name body) turns level inside rest e = absurd cc
-alone_lows (If test body) turns level inside rest e = absurd cc
-alone_lows (ElseIf test body) turns level inside rest e = absurd cc
-alone_lows (Else body) turns level inside rest e = absurd cc
-alone_lows (While test body) turns level inside rest e = absurd cc
-alone_lows (Switch value cases) turns level inside rest e = absurd cc
-alone_lows (Case value body) turns level inside rest e = absurd cc
-alone_lows (Default body) turns level inside rest e = absurd cc
-alone_lows Continue turns level inside rest e = absurd cc
-alone_lows t turns level inside rest e = refl
+abbrev AreLinked : Trees → List Place → DefaultPlaces → Type 0
+AreLinked terms cases default = (turns : Turns) (level : ℕ) → AsMany (links turns level terms (default_link turns level terms)) cases default
+
+alone_cuts : (t : Tree) (turns : Turns) (level : ℕ) (inside : Bool) (rest : Trees) → tree_kind t ≡ TermRole.Other → all_cuts (unswitched_all turns level inside (tree t rest)) ≡ 1 + all_cuts (unswitched_all turns level inside rest)
+alone_cuts (Method at name flags body) turns level inside rest e = absurd cc
+alone_cuts (Container' kind at name body) turns level inside rest e = absurd cc
+alone_cuts (Scope here at name body) turns level inside rest e = absurd cc
+alone_cuts (If test body) turns level inside rest e = absurd cc
+alone_cuts (ElseIf test body) turns level inside rest e = absurd cc
+alone_cuts (Else body) turns level inside rest e = absurd cc
+alone_cuts (While test body) turns level inside rest e = absurd cc
+alone_cuts (Switch value cases) turns level inside rest e = absurd cc
+alone_cuts (Case value body) turns level inside rest e = absurd cc
+alone_cuts (Default body) turns level inside rest e = absurd cc
+alone_cuts Continue turns level inside rest e = absurd cc
+alone_cuts t turns level inside rest e = refl
 
 -- a form before others
-module _ (turns : Turns) (level : ℕ) (inside : Bool) (rest : Trees) (args' : Plans) (left : Bool) (place : Place) (inner : Bool → List Place → List Place) (following : List Place → Following) where
+module _ (turns : Turns) (level : ℕ) (inside : Bool) (rest : Trees) (args' : Plans) (left : Bool) (place : Place) (inner : Bool → List Place → List Place) (chain : List Place → List Place) (default : List Place → DefaultPlaces) where
   abbrev more : ℕ
-  more = all_lows (unswitched_all turns level inside rest)
+  more = all_cuts (unswitched_all turns level inside rest)
 
-  pub form_count : (here : At) (op : Op) (args body : Trees) → Formed (form here op args body) → (FormedTerms body → AreTurned body (λ inside. inner inside [])) → (FormedCases body → have_continue body ≡ left) → (FormedCases body → AreLinked body (following []))
-      → all_lows (unswitched_all turns level inside (tree (form here op args body) rest)) ≡ length (form_at op args' inside left [] place (inner (is_inside op inside) (steps_inside op args' [])) (chain_places (following (steps_inside op args' [])))) + more
+  pub form_count : (here : At) (op : Op) (args body : Trees) → Formed (form here op args body) → (FormedTerms body → AreTurned body (λ inside. inner inside [])) → (FormedCases body → have_continue body ≡ left) → (FormedCases body → AreLinked body (chain []) (default []))
+      → all_cuts (unswitched_all turns level inside (tree (form here op args body) rest)) ≡ length (form_at op args' inside left [] place (inner (is_inside op inside) (steps_inside op args' [])) (chain_places (chain (steps_inside op args' [])) (default (steps_inside op args' [])))) + more
   form_count here (Op.Declaration Declaration.Method) (tree (Use at name) (tree (Integer arity) no_trees)) body h i k l = ap (λ n. suc n + more) (i h.2 (plan_of body) 0 false)
   form_count here (Op.Declaration Declaration.Method) _ body h i k l = absurd h
   form_count here (Op.Declaration Declaration.Device) (tree (Use at name) no_trees) body h i k l = ap (λ n. suc n + more) (i h.2 turns level inside)
@@ -252,7 +217,7 @@ module _ (turns : Turns) (level : ℕ) (inside : Bool) (rest : Trees) (args' : P
   form_count here (Op.Declaration Declaration.Scope) _ body h i k l = absurd h
   form_count here (Op.Control Control.If) (tree test no_trees) body h i k l = ap (λ n. suc n + more) (i h.2 turns level inside)
   form_count here (Op.Control Control.If) _ body h i k l = absurd h
-  form_count here (Op.Control Control.ElseIf) (tree test no_trees) body h i k l = ap (λ n. suc (suc n) + more) (i h.3 turns level inside)
+  form_count here (Op.Control Control.ElseIf) (tree test no_trees) body h i k l = ap (λ n. suc n + more) (i h.2 turns level inside)
   form_count here (Op.Control Control.ElseIf) _ body h i k l = absurd h
   form_count here (Op.Control Control.Else) no_trees body h i k l = ap (λ n. suc n + more) (i h turns level inside)
   form_count here (Op.Control Control.Else) _ body h i k l = absurd h
@@ -261,30 +226,41 @@ module _ (turns : Turns) (level : ℕ) (inside : Bool) (rest : Trees) (args' : P
   form_count here (Op.Control Control.For) (tree start (tree test (tree step no_trees))) body h i k l = absurd h.0
   form_count here (Op.Control Control.For) _ body h i k l = absurd h
   form_count here (Op.Control Control.Switch) (tree value no_trees) body h i k l =
-      let chain = chain_of (links turns level body (default_link turns level body)) in
-      let turn = turn_places place (chain_places (following [])) in
-      loop_lows turns (have_continue body) inside (loop_of value (value_local turns level) chain) (unswitched_all turns level inside rest) place turn
-      (turn_lows value (value_local turns level) chain place (chain_places (following [])) (chain_lows (links turns level body (default_link turns level body)) (following []) (l h.3 turns level)))
+      let turn = turn_places place (chain_places (chain []) (default [])) in
+      let tests = opened (links turns level body (default_link turns level body)) in
+      loop_cuts turns (have_continue body) inside (loop_of value (value_local turns level) tests) (unswitched_all turns level inside rest) place turn
+      (turn_cuts value (value_local turns level) tests place (chain_places (chain []) (default [])) (l h.3 turns level).1)
       ∙ ap (λ b. length (loop_places b inside place turn) + more) (k h.3)
   form_count here (Op.Control Control.Switch) _ body h i k l = absurd h
   form_count here (Op.Control Control.Case) (tree value no_trees) body h i k l = absurd h
   form_count here (Op.Control Control.Case) _ body h i k l = absurd h
   form_count here (Op.Control Control.Default) no_trees body h i k l = absurd h
   form_count here (Op.Control Control.Default) _ body h i k l = absurd h
-  form_count here (Op.Control Control.Continue) no_trees no_trees h i k l = continue_lows turns inside (unswitched_all turns level inside rest) place
+  form_count here (Op.Control Control.Continue) no_trees no_trees h i k l = continue_cuts turns inside (unswitched_all turns level inside rest) place
   form_count here (Op.Control Control.Continue) _ _ h i k l = absurd h
-  form_count here op args body h i k l = alone_lows (form here op args body) turns level inside rest (plain_kind here op args body refl refl)
+  form_count here op args body h i k l = alone_cuts (form here op args body) turns level inside rest (plain_kind here op args body refl refl)
 
-case_count : (turns : Turns) (level : ℕ) (place : Place) (inner : Bool → List Place) (following : Following) (here : At) (op : Op) (args body cases : Trees) → FormedCases (tree (form here op args body) cases) → (FormedTerms body → AreTurned body inner)
-    → (FormedCases cases → AreLinked cases following) → AsMany (links turns level (tree (form here op args body) cases) (default_link turns level (tree (form here op args body) cases))) (case_at op place (inner true) following)
-case_count turns level place inner following here (Op.Control Control.Case) (tree value no_trees) body cases h i k =
-    let behind = links turns level cases (default_link turns level cases) in
-    ap (λ n. suc n + all_lows (else_of behind)) (i h.1 turns (suc level) true) ∙ ap (λ n. suc (length (inner true)) + n) (else_lows behind following (k h.2 turns level)) ∙ sym (length-append (place ∷ inner true) (else_places following))
-case_count turns level place inner following here (Op.Control Control.Case) _ body cases h i k = absurd h
-case_count turns level place inner following here (Op.Control Control.Default) no_trees body no_trees h i k = i h turns (suc level) true
-case_count turns level place inner following here (Op.Control Control.Default) no_trees body (tree t ts) h i k = absurd h
-case_count turns level place inner following here (Op.Control Control.Default) _ body cases h i k = absurd h
-case_count turns level place inner following here op args body cases h i k = absurd (not_among ⊥ here op args body cases refl h)
+-- a Case before others, and a Default that is the last
+case_sum : (n m : ℕ) (place : Place) (inner cases others : List Place) → n ≡ length inner → m ≡ length (cases ++ others) → suc n + m ≡ length ((place ∷ (inner ++ cases)) ++ others)
+case_sum n m place inner cases others e f =
+    let whole = length-append (inner ++ cases) others in
+    let first = length-append inner cases in
+    let behind = length-append cases others in
+    omega (arith, e, f, whole, first, behind)
+
+default_sum : (made : Trees) (place : Place) (inner cases : List Place) (later : DefaultPlaces) → all_cuts made ≡ length inner → 0 ≡ length (cases ++ else_places later) → AsMany (tree (Else made) no_trees) cases (Some (place, inner))
+default_sum made place inner [] later e none = (omega (arith, e), e)
+default_sum made place inner (p ∷ ps) later e none = absurd (omega (arith, none))
+
+case_count : (turns : Turns) (level : ℕ) (place : Place) (inner : Bool → List Place) (others : List Place) (later : DefaultPlaces) (here : At) (op : Op) (args body cases : Trees) → FormedCases (tree (form here op args body) cases) → (FormedTerms body → AreTurned body inner)
+    → (FormedCases cases → AreLinked cases others later) → AsMany (links turns level (tree (form here op args body) cases) (default_link turns level (tree (form here op args body) cases))) (case_at op place (inner true) ++ others) (default_at op place (inner true) later)
+case_count turns level place inner others later here (Op.Control Control.Case) (tree value no_trees) body cases h i k =
+    let sum = case_sum _ _ place (inner true) others (else_places later) (i h.1 turns (suc level) true) (k h.2 turns level).0 in (sum, sum)
+case_count turns level place inner others later here (Op.Control Control.Case) _ body cases h i k = absurd h
+case_count turns level place inner others later here (Op.Control Control.Default) no_trees body no_trees h i k = default_sum (unswitched_all turns (suc level) true body) place (inner true) others later (i h turns (suc level) true) (k tt turns level).0
+case_count turns level place inner others later here (Op.Control Control.Default) no_trees body (tree t ts) h i k = absurd h
+case_count turns level place inner others later here (Op.Control Control.Default) _ body cases h i k = absurd h
+case_count turns level place inner others later here op args body cases h i k = absurd (not_among ⊥ here op args body cases refl h)
 
 -- ---- formed terms by the plans that they stand for
 
@@ -319,16 +295,16 @@ mutual
 
 -- as many terms as a tree and those behind it are
 abbrev are_before : Turns → ℕ → Bool → Trees → Tree → ℕ
-are_before turns level inside rest t = all_lows (unswitched_all turns level inside (tree t rest))
+are_before turns level inside rest t = all_cuts (unswitched_all turns level inside (tree t rest))
 
 mutual
   unfolding core_places_at
 
   stands_count : (turns : Turns) (level : ℕ) (inside : Bool) (rest : Trees) (place : Place) (p : Plan) (t : Tree) → Stands p t → Formed t
-      → all_lows (unswitched_all turns level inside (tree t rest)) ≡ length (core_places_at inside [] place p) + all_lows (unswitched_all turns level inside rest)
+      → all_cuts (unswitched_all turns level inside (tree t rest)) ≡ length (core_places_at inside [] place p) + all_cuts (unswitched_all turns level inside rest)
   stands_count turns level inside rest place (a_form op args body) t s h =
       ap (are_before turns level inside rest) s.3
-      ∙ form_count turns level inside rest args (are_left body) place (λ inside steps. core_places_in inside steps body) (λ steps. cases_in steps body) s.0 op s.1 s.2 (subst Formed s.3 h)
+      ∙ form_count turns level inside rest args (are_left body) place (λ inside steps. core_places_in inside steps body) (λ steps. cases_in steps body) (λ steps. default_in steps body) s.0 op s.1 s.2 (subst Formed s.3 h)
       (λ k. stand_count body s.2 s.5 k) (λ k. cases_left body s.2 s.5 k) (λ k. cases_count body s.2 s.5 k)
   stands_count turns level inside rest place (a_call name args) t s h = ap (are_before turns level inside rest) s.2
   stands_count turns level inside rest place (a_name name) t s h = ap (are_before turns level inside rest) s.1
@@ -343,13 +319,13 @@ mutual
       stands_count turns level inside ts place p t s.0 h.0 ∙ ap (λ n. length (core_places_at inside [] place p) + n) (stand_count ps ts s.1 h.2 turns level inside)
       ∙ sym (length-append (core_places_at inside [] place p) (core_places_in inside [] ps))
 
-  cases_count : (ps : Plans) (ts : Trees) → StandAll ps ts → FormedCases ts → AreLinked ts (cases_in [] ps)
-  cases_count no_plans no_trees s h turns level = tt
+  cases_count : (ps : Plans) (ts : Trees) → StandAll ps ts → FormedCases ts → AreLinked ts (cases_in [] ps) (default_in [] ps)
+  cases_count no_plans no_trees s h turns level = (refl, refl)
   cases_count no_plans (tree t ts) s h turns level = absurd s
   cases_count (plan place p ps) no_trees s h turns level = absurd s
   cases_count (plan place (a_form op args body) ps) (tree t ts) s h turns level =
-      subst (λ u. AsMany (links turns level (tree u ts) (default_link turns level (tree u ts))) (case_at op place (core_places_in true [] body) (cases_in [] ps))) (sym s.0.3)
-      (case_count turns level place (λ inside. core_places_in inside [] body) (cases_in [] ps) s.0.0 op s.0.1 s.0.2 ts (subst (λ u. FormedCases (tree u ts)) s.0.3 h)
+      subst (λ u. AsMany (links turns level (tree u ts) (default_link turns level (tree u ts))) (case_at op place (core_places_in true [] body) ++ cases_in [] ps) (default_at op place (core_places_in true [] body) (default_in [] ps))) (sym s.0.3)
+      (case_count turns level place (λ inside. core_places_in inside [] body) (cases_in [] ps) (default_in [] ps) s.0.0 op s.0.1 s.0.2 ts (subst (λ u. FormedCases (tree u ts)) s.0.3 h)
       (λ k. stand_count body s.0.2 s.0.5 k) (λ k. cases_count ps ts s.1 k))
   cases_count (plan place (a_call name args) ps) (tree t ts) s h turns level = absurd (subst (λ u. FormedCases (tree u ts)) s.0.2 h)
   cases_count (plan place (a_name name) ps) (tree t ts) s h turns level = absurd (subst (λ u. FormedCases (tree u ts)) s.0.1 h)
@@ -425,6 +401,7 @@ mutual
   inner_length (Container' kind at name body) = ap suc (starts_length false body)
   inner_length (Scope here at name body) = ap suc (starts_length false body)
   inner_length (If test body) = ap suc (starts_length false body)
+  inner_length (ElseIf test body) = ap suc (starts_length false body)
   inner_length (Else body) = ap suc (starts_length false body)
   inner_length (While test body) = ap suc (starts_length false body)
   inner_length t = refl
@@ -462,6 +439,7 @@ mutual
   wrapped_count (Container' kind at name body) = ap suc (list_counts body (behind_count body)) ∙ suc_first (all_cuts body) (marked (starts false body))
   wrapped_count (Scope here at name body) = ap suc (list_counts body (behind_count body)) ∙ suc_first (all_cuts body) (marked (starts false body))
   wrapped_count (If test body) = ap suc (list_counts body (behind_count body)) ∙ suc_first (all_cuts body) (marked (starts false body))
+  wrapped_count (ElseIf test body) = ap suc (list_counts body (behind_count body)) ∙ suc_first (all_cuts body) (marked (starts false body))
   wrapped_count (Else body) = ap suc (list_counts body (behind_count body)) ∙ suc_first (all_cuts body) (marked (starts false body))
   wrapped_count (While test body) = ap suc (list_counts body (behind_count body)) ∙ suc_first (all_cuts body) (marked (starts false body))
   wrapped_count t = refl

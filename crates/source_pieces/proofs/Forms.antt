@@ -2,34 +2,25 @@
 use Rattle.std.proofs.Common.{◌≡◌, Bool, true, false, List, [], ◌∷◌, ◌++◌, Some, refl, sym, ap, ◌∙◌}
 use Rattle.std.specs.Prelude.{◌&&◌, ◌||◌}
 use Rattle.iasl_messages.specs.declared.place.Place.{Place}
-use Rattle.acpi_values.specs.declared.operator.Plain.{Plain}
-use Rattle.acpi_values.specs.Operators.{row_of}
 use Rattle.asl_tree.specs.declared.term.Op.{Op}
 use Rattle.asl_tree.specs.declared.term.Declaration.TheVariants as Declaration
 use Rattle.asl_tree.specs.declared.term.Control.TheVariants as Control
-use Rattle.asl_tree.specs.declared.term.Symbolic.TheVariants as Symbolic
-use Rattle.asl_tree.specs.Symbols.{takes_target}
 use Rattle.asl_tree.specs.Tree.{At, Tree, Integer, Use, Method, Container', Scope, If, ElseIf, Else, While, For, Switch, Case, Default, Continue, Trees, no_trees, tree}
-use Rattle.asl_tree.specs.View.{fits, form}
+use Rattle.asl_tree.specs.View.{form}
 use Rattle.term_places.specs.Places.{holds_terms}
 use Rattle.acpi_names.specs.declared.part.NameRole.{NameRole}
 use Rattle.acpi_names.specs.declared.part.NameRole.TheVariants as P
 use Rattle.acpi_names.specs.declared.part.What.TheVariants as W
 use Rattle.acpi_names.specs.Parts.{are, part_of}
-use Rattle.acpi_names.specs.Walked.{OfForm}
-use Rattle.asl_lower.specs.declared.kind.TermRole.{TermRole as LoweredKind}
-use Rattle.asl_lower.specs.Kinds.{flagged, tree_kind as lowered_kind, shape_kind as lowered_shape}
-use Rattle.asl_lower.specs.Places as lowered
-use Rattle.asl_lower.proofs.KindRows.{form_kind as lowered_form}
-use Rattle.aml_writer.proofs.Cuts.{holds, form_holds}
+use Rattle.aml_sizes.proofs.Holds.{holds, form_holds}
 use Rattle.hidden_locals.specs.Crossing.{has_continue, have_continue}
 use Rattle.switch_loops.specs.declared.kind.TermRole.{TermRole}
 use Rattle.switch_loops.specs.Kinds.{flagged as flagged_kind, part_kind, form_kind}
-use Rattle.switch_loops.specs.Places.{Following, body_inside, else_places, turn_places, loop_places, form_places, case_places, default_places}
+use Rattle.switch_loops.specs.Places.{DefaultPlaces, body_inside, case_places, default_places, form_places, loop_places, own_places, turn_places}
 use Rattle.switch_loops.proofs.KindRows.{tree_kind, kind_form}
 use Rattle.named_sessions.specs.Shaped.{AreNamed, IsFormed, AreFormed, AreFormedCases}
-use Rattle.asl_terms.specs.Plans.{Plans}
-use Rattle.source_pieces.specs.Places.{form_is_left, steps_inside, is_inside, form_at, case_at}
+use Rattle.term_plans.specs.Plans.{Plans}
+use Rattle.source_pieces.specs.Places.{form_is_left, steps_inside, is_inside, form_at, case_at, default_at}
 
 -- what is formed where symbols, ElseIfs and Switches may stand, but no Fors and nothing that prints
 abbrev pub Formed : Tree → Type 0
@@ -58,7 +49,6 @@ is_case TermRole.Default = true
 is_case kind = false
 
 abbrev pub is_plain : Op → Bool
-is_plain (Op.Control Control.ElseIf) = false
 is_plain (Op.Control Control.While) = false
 is_plain (Op.Control Control.For) = false
 is_plain (Op.Control Control.Switch) = false
@@ -89,7 +79,6 @@ flag_case true k e = e
 flag_case false k e = refl
 
 op_plain : (op : Op) (args body : Trees) → is_plain op ≡ true → of_switches (form_kind op args body) ≡ false
-op_plain (Op.Control Control.ElseIf) args body e = absurd cc
 op_plain (Op.Control Control.While) args body e = absurd cc
 op_plain (Op.Control Control.For) args body e = absurd cc
 op_plain (Op.Control Control.Switch) args body e = absurd cc
@@ -107,38 +96,25 @@ op_no_case (Op.Control Control.While) args body e = flag_case (are 1 args) TermR
 op_no_case (Op.Control Control.For) args body e = flag_case (are 3 args) TermRole.Loop refl
 op_no_case op args body e = no_case (part_kind (part_of op args body)) (part_plain (part_of op args body))
 
-no_flag : (a b : Bool) (op : Plain) → flagged a (flagged b (LoweredKind.Operated op)) ≡ LoweredKind.ElseIf → ⊥
-no_flag true true op e = absurd cc
-no_flag true false op e = absurd cc
-no_flag false b op e = absurd cc
-
-no_else_if : (op : Op) (args body : Trees) → is_plain op ≡ true → lowered_shape (OfForm op args body) ≡ LoweredKind.ElseIf → ⊥
-no_else_if (Op.Control Control.ElseIf) args body e k = absurd cc
-no_else_if (Op.Control Control.For) args body e k = absurd cc
-no_else_if (Op.Control Control.Else) no_trees body e k = absurd cc
-no_else_if (Op.Control Control.Else) (tree t ts) body e k = absurd cc
-no_else_if (Op.Symbolic (Symbolic.Operator op)) args body e k = no_flag (are 0 body && fits (row_of op).operands args) (takes_target op) op k
-no_else_if op args body e k = absurd cc
-
-other_kind : (t : Tree) → holds t ≡ false → (lowered_kind t ≡ LoweredKind.ElseIf → ⊥) → of_switches (tree_kind t) ≡ false → tree_kind t ≡ TermRole.Other
-other_kind (Method at name flags body) h never e = absurd cc
-other_kind (Container' kind at name body) h never e = absurd cc
-other_kind (Scope here at name body) h never e = absurd cc
-other_kind (If test body) h never e = absurd cc
-other_kind (ElseIf test body) h never e = absurd (never refl)
-other_kind (Else body) h never e = absurd cc
-other_kind (While test body) h never e = absurd cc
-other_kind (For start test step body) h never e = absurd cc
-other_kind (Switch value cases) h never e = absurd cc
-other_kind (Case value body) h never e = absurd cc
-other_kind (Default body) h never e = absurd cc
-other_kind Continue h never e = absurd cc
-other_kind t h never e = refl
+other_kind : (t : Tree) → holds t ≡ false → of_switches (tree_kind t) ≡ false → tree_kind t ≡ TermRole.Other
+other_kind (Method at name flags body) h e = absurd cc
+other_kind (Container' kind at name body) h e = absurd cc
+other_kind (Scope here at name body) h e = absurd cc
+other_kind (If test body) h e = absurd cc
+other_kind (ElseIf test body) h e = absurd cc
+other_kind (Else body) h e = absurd cc
+other_kind (While test body) h e = absurd cc
+other_kind (For start test step body) h e = absurd cc
+other_kind (Switch value cases) h e = absurd cc
+other_kind (Case value body) h e = absurd cc
+other_kind (Default body) h e = absurd cc
+other_kind Continue h e = absurd cc
+other_kind t h e = refl
 
 -- one that has no terms in its braces, and nothing to do with Switches
 pub plain_kind : (here : At) (op : Op) (args body : Trees) → holds_terms op ≡ false → is_plain op ≡ true → tree_kind (form here op args body) ≡ TermRole.Other
 plain_kind here op args body h e =
-    other_kind (form here op args body) (form_holds here op args body h) (λ k. no_else_if op args body e (sym (lowered_form here op args body) ∙ k)) (ap of_switches (kind_form here op args body) ∙ op_plain op args body e)
+    other_kind (form here op args body) (form_holds here op args body h) (ap of_switches (kind_form here op args body) ∙ op_plain op args body e)
 
 -- ---- whether a Continue leaves it
 
@@ -169,7 +145,7 @@ form_left here (Op.Declaration Declaration.Scope) (tree (Use at name) no_trees) 
 form_left here (Op.Declaration Declaration.Scope) _ body left h i k = absurd h
 form_left here (Op.Control Control.If) (tree test no_trees) body left h i k = i h.2
 form_left here (Op.Control Control.If) _ body left h i k = absurd h
-form_left here (Op.Control Control.ElseIf) (tree test no_trees) body left h i k = i h.3
+form_left here (Op.Control Control.ElseIf) (tree test no_trees) body left h i k = i h.2
 form_left here (Op.Control Control.ElseIf) _ body left h i k = absurd h
 form_left here (Op.Control Control.Else) no_trees body left h i k = i h
 form_left here (Op.Control Control.Else) _ body left h i k = absurd h
@@ -210,16 +186,16 @@ case_left here op args body cases left more h i k = absurd (not_among ⊥ here o
 
 -- ---- what stands for it
 
-stays : (p : NameRole) (op : Op) (args : Trees) (inside left : Bool) (place : Place) (inner chain : List Place) → form_places (part_kind p) op args inside left place inner chain ≡ lowered.form_places op args place inner
-stays (P.Declares n (W.Method flags) true) op args inside left place inner chain = refl
-stays (P.Declares n (W.Method flags) false) op args inside left place inner chain = refl
-stays (P.Declares n what true) op args inside left place inner chain = refl
-stays (P.Declares n what false) op args inside left place inner chain = refl
-stays p op args inside left place inner chain = refl
+stays : (p : NameRole) (op : Op) (inside left : Bool) (place : Place) (inner chain : List Place) → form_places (part_kind p) op inside left place inner chain ≡ own_places op place inner
+stays (P.Declares n (W.Method flags) true) op inside left place inner chain = refl
+stays (P.Declares n (W.Method flags) false) op inside left place inner chain = refl
+stays (P.Declares n what true) op inside left place inner chain = refl
+stays (P.Declares n what false) op inside left place inner chain = refl
+stays p op inside left place inner chain = refl
 
 module _ (args' : Plans) (inside left : Bool) (place : Place) (inner chain : List Place) (inner' : Bool → List Place → List Place) (chain' : List Place → List Place) where
   pub form_planned : (here : At) (op : Op) (args body : Trees) → Formed (form here op args body) → (FormedTerms body → inner ≡ inner' (body_inside op inside) []) → (FormedCases body → have_continue body ≡ left) → (FormedCases body → chain ≡ chain' [])
-      → form_places (form_kind op args body) op args inside (have_continue body) place inner chain ≡ form_at op args' inside left [] place (inner' (is_inside op inside) (steps_inside op args' [])) (chain' (steps_inside op args' []))
+      → form_places (form_kind op args body) op inside (have_continue body) place inner chain ≡ form_at op args' inside left [] place (inner' (is_inside op inside) (steps_inside op args' [])) (chain' (steps_inside op args' []))
   form_planned here (Op.Declaration Declaration.Method) (tree (Use at name) (tree (Integer arity) no_trees)) body h i k l = ap (λ ps. place ∷ ps) (i h.2)
   form_planned here (Op.Declaration Declaration.Method) _ body h i k l = absurd h
   form_planned here (Op.Declaration Declaration.Device) (tree (Use at name) no_trees) body h i k l = ap (λ ps. place ∷ ps) (i h.2)
@@ -234,7 +210,7 @@ module _ (args' : Plans) (inside left : Bool) (place : Place) (inner chain : Lis
   form_planned here (Op.Declaration Declaration.Scope) _ body h i k l = absurd h
   form_planned here (Op.Control Control.If) (tree test no_trees) body h i k l = ap (λ ps. place ∷ ps) (i h.2)
   form_planned here (Op.Control Control.If) _ body h i k l = absurd h
-  form_planned here (Op.Control Control.ElseIf) (tree test no_trees) body h i k l = ap (λ ps. place ∷ place ∷ ps) (i h.3)
+  form_planned here (Op.Control Control.ElseIf) (tree test no_trees) body h i k l = ap (λ ps. place ∷ ps) (i h.2)
   form_planned here (Op.Control Control.ElseIf) _ body h i k l = absurd h
   form_planned here (Op.Control Control.Else) no_trees body h i k l = ap (λ ps. place ∷ ps) (i h)
   form_planned here (Op.Control Control.Else) _ body h i k l = absurd h
@@ -251,15 +227,23 @@ module _ (args' : Plans) (inside left : Bool) (place : Place) (inner chain : Lis
   form_planned here (Op.Control Control.Default) _ body h i k l = absurd h
   form_planned here (Op.Control Control.Continue) no_trees no_trees h i k l = refl
   form_planned here (Op.Control Control.Continue) _ _ h i k l = absurd h
-  form_planned here op args body h i k l = stays (part_of op args body) op args inside (have_continue body) place inner chain
+  form_planned here op args body h i k l = stays (part_of op args body) op inside (have_continue body) place inner chain
 
--- `rest` are the Cases behind it, before what follows the last of them
-pub case_planned : (here : At) (op : Op) (args body cases : Trees) (place : Place) (inner inner' : List Place) (rest : Following → Following) (default following : Following) → FormedCases (tree (form here op args body) cases) → (FormedTerms body → inner ≡ inner')
-    → (FormedCases cases → rest default ≡ following) → (cases ≡ no_trees → (d : Following) → rest d ≡ d) → case_places (form_kind op args body) place inner (rest (default_places (form_kind op args body) place inner default)) ≡ case_at op place inner' following
-case_planned here (Op.Control Control.Case) (tree value no_trees) body cases place inner inner' rest default following h i k l =
-    ap (λ ps. Some (place, (place ∷ ps) ++ else_places (rest default))) (i h.1) ∙ ap (λ f. Some (place, (place ∷ inner') ++ else_places f)) (k h.2)
-case_planned here (Op.Control Control.Case) _ body cases place inner inner' rest default following h i k l = absurd h
-case_planned here (Op.Control Control.Default) no_trees body no_trees place inner inner' rest default following h i k l = l refl (Some (place, inner)) ∙ ap (λ ps. Some (place, ps)) (i h)
-case_planned here (Op.Control Control.Default) no_trees body (tree t ts) place inner inner' rest default following h i k l = absurd h
-case_planned here (Op.Control Control.Default) _ body cases place inner inner' rest default following h i k l = absurd h
-case_planned here op args body cases place inner inner' rest default following h i k l = absurd (not_among ⊥ here op args body cases refl h)
+-- the Cases, and the Default
+pub case_planned : (here : At) (op : Op) (args body cases : Trees) (place : Place) (inner inner' more more' : List Place) → FormedCases (tree (form here op args body) cases) → (FormedTerms body → inner ≡ inner') → (FormedCases cases → more ≡ more')
+    → case_places (form_kind op args body) place inner ++ more ≡ case_at op place inner' ++ more'
+case_planned here (Op.Control Control.Case) (tree value no_trees) body cases place inner inner' more more' h i k = ap (λ ps. (place ∷ ps) ++ more) (i h.1) ∙ ap (λ ps. (place ∷ inner') ++ ps) (k h.2)
+case_planned here (Op.Control Control.Case) _ body cases place inner inner' more more' h i k = absurd h
+case_planned here (Op.Control Control.Default) no_trees body no_trees place inner inner' more more' h i k = k tt
+case_planned here (Op.Control Control.Default) no_trees body (tree t ts) place inner inner' more more' h i k = absurd h
+case_planned here (Op.Control Control.Default) _ body cases place inner inner' more more' h i k = absurd h
+case_planned here op args body cases place inner inner' more more' h i k = absurd (not_among ⊥ here op args body cases refl h)
+
+pub default_planned : (here : At) (op : Op) (args body cases : Trees) (place : Place) (inner inner' : List Place) (later later' : DefaultPlaces) → FormedCases (tree (form here op args body) cases) → (FormedTerms body → inner ≡ inner') → (FormedCases cases → later ≡ later')
+    → default_places (form_kind op args body) place inner later ≡ default_at op place inner' later'
+default_planned here (Op.Control Control.Case) (tree value no_trees) body cases place inner inner' later later' h i k = k h.2
+default_planned here (Op.Control Control.Case) _ body cases place inner inner' later later' h i k = absurd h
+default_planned here (Op.Control Control.Default) no_trees body no_trees place inner inner' later later' h i k = ap (λ ps. Some (place, ps)) (i h)
+default_planned here (Op.Control Control.Default) no_trees body (tree t ts) place inner inner' later later' h i k = absurd h
+default_planned here (Op.Control Control.Default) _ body cases place inner inner' later later' h i k = absurd h
+default_planned here op args body cases place inner inner' later later' h i k = absurd (not_among ⊥ here op args body cases refl h)

@@ -1,5 +1,5 @@
 -- The pieces of a source, one after another, are its table.
-use Rattle.std.proofs.Common.{◌≡◌, suc, Bool, List, [], ◌∷◌, ◌++◌, length, refl, sym, ap, ◌∙◌, arith}
+use Rattle.std.proofs.Common.{◌≡◌, ℕ, suc, Bool, List, [], ◌∷◌, ◌++◌, length, refl, sym, ap, ◌∙◌, arith}
 use Rattle.iasl_messages.specs.declared.place.Place.{Place}
 use Rattle.iasl_messages.specs.declared.place.Line.{Line}
 use Rattle.iasl_messages.specs.declared.place.Piece.{Piece}
@@ -9,19 +9,18 @@ use Rattle.asl_shape.specs.Forms.{errors_at}
 use Rattle.program_shapes.specs.Kept.{IsKeptSource}
 use Rattle.program_shapes.specs.Sources.{plans_in, statements_in, fields_in, width_in, described_in, spelled_in, table_in}
 use Rattle.program_shapes.proofs.Tables.{terms_are_formed, terms_are_near}
-use Rattle.aml_sizes.specs.Pieces.{CutBytes, joined_pieces}
+use Rattle.aml_sizes.specs.Pieces.{joined_pieces}
 use Rattle.aml_writer.specs.Cuts.{pieces_with, ArePieces}
 use Rattle.aml_writer.proofs.Cuts.{joined_parts, parts_are}
-use Rattle.aml_sizes.proofs.Joined.{put_joined}
 use Rattle.source_pieces.specs.Pieces.{places_in, parts_in, pieces_in, ArePiecesOf}
 use Rattle.source_pieces.proofs.Counts.{cut_counts, core_count}
 
 -- where there are as many places as parts, nothing is lost
-with_places : (lines : List Line) (places : List Place) (parts : List CutBytes) → length places ≡ length parts → joined_pieces (pieces_with lines places parts) ≡ joined_parts parts
+with_places : (lines : List Line) (places : List Place) (parts : List (List ℕ)) → length places ≡ length parts → joined_pieces (pieces_with lines places parts) ≡ joined_parts parts
 with_places lines [] [] e = refl
 with_places lines [] (part ∷ parts) e = absurd (omega (arith, e))
 with_places lines (place ∷ places) [] e = absurd (omega (arith, e))
-with_places lines (place ∷ places) (part ∷ parts) e = put_joined lines place part (pieces_with lines places parts) ∙ ap (λ bs. part.bytes ++ bs) (with_places lines places parts (omega (arith, e)))
+with_places lines (place ∷ places) (part ∷ parts) e = ap (λ bs. part ++ bs) (with_places lines places parts (omega (arith, e)))
 
 -- with as many places as parts
 joined_with : (lines : List Line) (wrap fold short shorten : Bool) (items : List Raw) → length (places_in wrap fold items) ≡ length (parts_in wrap fold short shorten items) → joined_pieces (pieces_in lines wrap fold short shorten items) ≡ table_in wrap fold short shorten items

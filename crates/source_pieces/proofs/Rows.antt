@@ -3,7 +3,7 @@ use Rattle.std.proofs.Common.{◌≡◌, ℕ, false, [], ◌∷◌, refl}
 use Rattle.iasl_messages.specs.declared.place.Place.{Place}
 use Rattle.asl_tree.specs.declared.term.Control.TheVariants as Control
 use Rattle.asl_tree.specs.declared.term.Op.{Op}
-use Rattle.asl_terms.specs.Plans.{Plan, an_integer, a_local, omitted, a_form, Plans, no_plans, plan}
+use Rattle.term_plans.specs.Plans.{Plan, an_integer, a_local, omitted, a_form, Plans, no_plans, plan}
 use Rattle.asl_prints.specs.Plans.{formed_plans}
 use Rattle.source_pieces.specs.Places.{is_left, core_places_in, core_places}
 

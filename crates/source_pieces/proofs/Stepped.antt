@@ -8,7 +8,7 @@ use Rattle.asl_tree.specs.declared.term.Declaration.TheVariants as Declaration
 use Rattle.asl_tree.specs.declared.term.Control.TheVariants as Control
 use Rattle.asl_tree.specs.Tree.{At, Tree, Integer, Use, For, Trees, no_trees, tree}
 use Rattle.asl_tree.specs.View.{form}
-use Rattle.asl_terms.specs.Plans.{Plan, a_text, a_name, a_unit, a_call, debug, omitted, a_form, Plans, no_plans, plan, join}
+use Rattle.term_plans.specs.Plans.{Plan, a_text, a_name, a_unit, a_call, debug, omitted, a_form, Plans, no_plans, plan, join}
 use Rattle.asl_prints.specs.Forms as F
 use Rattle.asl_prints.specs.Nodes.{goes_in}
 use Rattle.asl_prints.specs.Plans as P
@@ -19,7 +19,7 @@ use Rattle.named_sessions.specs.Shaped.{AreNamed, IsFormed, AreFormed, AreFormed
 use Rattle.form_shapes.specs.Near.{IsNear, AreNear}
 use Rattle.form_shapes.proofs.Formed.{fits_loop, effect_expression}
 use Rattle.switch_loops.specs.Places.{chain_places, turn_places, loop_places, continue_places}
-use Rattle.source_pieces.specs.Places.{form_is_left, is_left, are_left, place_given, case_at, core_places_at, core_places_in, cases_in}
+use Rattle.source_pieces.specs.Places.{form_is_left, is_left, are_left, place_given, core_places_at, core_places_in, cases_in, default_in}
 use Rattle.source_pieces.proofs.Forms.{not_among}
 
 -- what is formed in a source
@@ -229,6 +229,13 @@ mutual
 
 -- ---- a form
 
+-- what stands for the Cases and the Default among some plans
+abbrev chain_in : List Place → Plans → List Place
+chain_in steps ps = chain_places (cases_in steps ps) (default_in steps ps)
+
+abbrev SameCases : List Place → Plans → List Place → Plans → Type 0
+SameCases steps ps steps' ps' = (cases_in steps ps ≡ cases_in steps' ps') × (default_in steps ps ≡ default_in steps' ps')
+
 -- whether a form stays in its place, and nothing is put before it
 abbrev stays : Op → Bool
 stays (Op.Control Control.For) = false
@@ -239,7 +246,7 @@ module _ (steps : Plans) (values : AreValues steps) (inside : Bool) (place : Pla
   form_stepped : (here : At) (op : Op) (cs bs : Trees) → stays op ≡ true → Source (form here op cs bs) → IsNear (form here op cs bs)
       → (SourceTerms bs → AreNear bs → (inside : Bool) → core_places_in inside [] (P.stepped_all steps (P.formed_plans body)) ≡ core_places_in inside (firsts steps) body)
       → (SourceTerms bs → AreNear bs → (inside : Bool) → core_places_in inside [] (P.formed_plans body) ≡ core_places_in inside [] body)
-      → (SourceCases bs → AreNear bs → cases_in [] (P.stepped_all steps (P.formed_plans body)) ≡ cases_in (firsts steps) body)
+      → (SourceCases bs → AreNear bs → SameCases [] (P.stepped_all steps (P.formed_plans body)) (firsts steps) body)
       → core_places_at inside [] place (P.stepped steps (P.formed_plan (a_form op args body))) ≡ core_places_at inside (firsts steps) place (a_form op args body)
   unfolding core_places_at P.formed_plan
   form_stepped here (Op.Declaration Declaration.Method) (tree (Use at name) (tree (Integer arity) no_trees)) bs e h n i j k = ap (λ ps. place ∷ ps) (j h.2 n false)
@@ -256,15 +263,16 @@ module _ (steps : Plans) (values : AreValues steps) (inside : Bool) (place : Pla
   form_stepped here (Op.Declaration Declaration.Scope) _ bs e h n i j k = absurd h
   form_stepped here (Op.Control Control.If) (tree test no_trees) bs e h n i j k = ap (λ ps. place ∷ ps) (i h.2 n inside)
   form_stepped here (Op.Control Control.If) _ bs e h n i j k = absurd h
-  form_stepped here (Op.Control Control.ElseIf) (tree test no_trees) bs e h n i j k = ap (λ ps. place ∷ place ∷ ps) (i h.3 n inside)
+  form_stepped here (Op.Control Control.ElseIf) (tree test no_trees) bs e h n i j k = ap (λ ps. place ∷ ps) (i h.2 n inside)
   form_stepped here (Op.Control Control.ElseIf) _ bs e h n i j k = absurd h
   form_stepped here (Op.Control Control.Else) no_trees bs e h n i j k = ap (λ ps. place ∷ ps) (i h n inside)
   form_stepped here (Op.Control Control.Else) _ bs e h n i j k = absurd h
   form_stepped here (Op.Control Control.While) (tree test no_trees) bs e h n i j k = ap (λ ps. place ∷ ps) (j h.2 n false)
   form_stepped here (Op.Control Control.While) _ bs e h n i j k = absurd h
   form_stepped here (Op.Control Control.Switch) (tree value no_trees) bs e h n i j k =
-      ap (λ b. loop_places b inside place (turn_places place (chain_places (cases_in [] (P.stepped_all steps (P.formed_plans body)))))) (steps_left steps values (P.formed_plans body) ∙ plans_left body)
-      ∙ ap (λ f. loop_places (are_left body) inside place (turn_places place (chain_places f))) (k h.3 n)
+      ap (λ b. loop_places b inside place (turn_places place (chain_in [] (P.stepped_all steps (P.formed_plans body))))) (steps_left steps values (P.formed_plans body) ∙ plans_left body)
+      ∙ ap (λ ps. loop_places (are_left body) inside place (turn_places place ps))
+      (ap (λ ps. chain_places ps (default_in [] (P.stepped_all steps (P.formed_plans body)))) (k h.3 n).0 ∙ ap (chain_places (cases_in (firsts steps) body)) (k h.3 n).1)
   form_stepped here (Op.Control Control.Switch) _ bs e h n i j k = absurd h
   form_stepped here (Op.Control Control.For) cs bs e h n i j k = absurd cc
   form_stepped here (Op.Control Control.Continue) cs bs e h n i j k = absurd cc
@@ -369,7 +377,7 @@ module _ (steps : Plans) (values : AreValues steps) (inside : Bool) (place : Pla
 
   form_spread : (here : At) (op : Op) (args body : Plans) (cs bs : Trees) → StandAll args cs → StandAll body bs → Source (form here op cs bs) → IsNear (form here op cs bs)
       → ((more : Plans) → AreValues more → SourceTerms bs → AreNear bs → (inside : Bool) → core_places_in inside [] (P.stepped_all more (P.formed_plans body)) ≡ core_places_in inside (firsts more) body)
-      → (SourceCases bs → AreNear bs → cases_in [] (P.stepped_all steps (P.formed_plans body)) ≡ cases_in (firsts steps) body)
+      → (SourceCases bs → AreNear bs → SameCases [] (P.stepped_all steps (P.formed_plans body)) (firsts steps) body)
       → core_places_in inside [] (P.stepped_all steps (P.spread place (P.formed_plan (a_form op args body)) rest)) ≡ core_places_at inside (firsts steps) place (a_form op args body) ++ later
   unfolding core_places_in P.formed_plan
   form_spread here (Op.Control Control.For) (plan a start (plan b test (plan c step no_plans))) body (tree x (tree y (tree z no_trees))) bs s r h n i k =
@@ -393,14 +401,15 @@ module _ (steps : Plans) (values : AreValues steps) (inside : Bool) (place : Pla
 -- a Case before others
 case_stepped : (steps : Plans) (place : Place) (here : At) (op : Op) (args body : Plans) (cs bs : Trees) (ps : Plans) (ts : Trees) → SourceCases (tree (form here op cs bs) ts) → IsNear (form here op cs bs) → AreNear ts
     → (SourceTerms bs → AreNear bs → core_places_in true [] (P.stepped_all steps (P.formed_plans body)) ≡ core_places_in true (firsts steps) body)
-    → (SourceCases ts → AreNear ts → cases_in [] (P.stepped_all steps (P.formed_plans ps)) ≡ cases_in (firsts steps) ps)
-    → cases_in [] (P.stepped_all steps (P.formed_plans (plan place (a_form op args body) ps))) ≡ cases_in (firsts steps) (plan place (a_form op args body) ps)
+    → (SourceCases ts → AreNear ts → SameCases [] (P.stepped_all steps (P.formed_plans ps)) (firsts steps) ps)
+    → SameCases [] (P.stepped_all steps (P.formed_plans (plan place (a_form op args body) ps))) (firsts steps) (plan place (a_form op args body) ps)
 unfolding core_places_in P.formed_plan
-case_stepped steps place here (Op.Control Control.Case) args body (tree value no_trees) bs ps ts h n m i k =
-    ap (λ inner. case_at (Op.Control Control.Case) place inner (cases_in [] (P.stepped_all steps (P.formed_plans ps)))) (i h.1 n)
-    ∙ ap (case_at (Op.Control Control.Case) place (core_places_in true (firsts steps) body)) (k h.2 m)
+case_stepped steps place here (Op.Control Control.Case) args body (tree value no_trees) bs ps ts h n m i k = (
+  ap (λ inner. (place ∷ inner) ++ cases_in [] (P.stepped_all steps (P.formed_plans ps))) (i h.1 n) ∙ ap (λ more. (place ∷ core_places_in true (firsts steps) body) ++ more) (k h.2 m).0,
+  (k h.2 m).1,
+)
 case_stepped steps place here (Op.Control Control.Case) args body _ bs ps ts h n m i k = absurd h
-case_stepped steps place here (Op.Control Control.Default) args body no_trees bs ps no_trees h n m i k = ap (λ inner. Some (place, inner)) (i h n)
+case_stepped steps place here (Op.Control Control.Default) args body no_trees bs ps no_trees h n m i k = ((k tt tt).0, ap (λ inner. Some (place, inner)) (i h n))
 case_stepped steps place here (Op.Control Control.Default) args body no_trees bs ps (tree t ts) h n m i k = absurd h
 case_stepped steps place here (Op.Control Control.Default) args body _ bs ps ts h n m i k = absurd h
 case_stepped steps place here op args body cs bs ps ts h n m i k = absurd (not_among (Unit {0}) here op cs bs ts refl h)
@@ -423,8 +432,8 @@ mutual
   terms_stepped steps values inside (plan place p ps) (tree t ts) s h n =
       term_stepped steps values inside place (P.formed_plans ps) p t s.0 h.0 n.0 ∙ ap (λ xs. core_places_at inside (firsts steps) place p ++ xs) (terms_stepped steps values inside ps ts s.1 h.2 n.1)
 
-  cases_stepped : (steps : Plans) → AreValues steps → (ps : Plans) (ts : Trees) → StandAll ps ts → SourceCases ts → AreNear ts → cases_in [] (P.stepped_all steps (P.formed_plans ps)) ≡ cases_in (firsts steps) ps
-  cases_stepped steps values no_plans no_trees s h n = refl
+  cases_stepped : (steps : Plans) → AreValues steps → (ps : Plans) (ts : Trees) → StandAll ps ts → SourceCases ts → AreNear ts → SameCases [] (P.stepped_all steps (P.formed_plans ps)) (firsts steps) ps
+  cases_stepped steps values no_plans no_trees s h n = (refl, refl)
   cases_stepped steps values no_plans (tree t ts) s h n = absurd s
   cases_stepped steps values (plan place p ps) no_trees s h n = absurd s
   cases_stepped steps values (plan place (a_form op args body) ps) (tree t ts) s h n =

@@ -1,16 +1,15 @@
 -- The places of the terms of a program's core, read off its plans: in preorder, those of the terms of the term lists.
--- The core has an Else and an If for an ElseIf, whose place so comes twice, and a loop for a Switch: what is made for
--- the Switch has its place, but the test of a Case has the Case's, and the Else behind it that of the next Case, or of
--- the Default. A Continue inside a Switch of its loop is a Store and a Break, so its place comes twice, too. A For is its
--- start, and a loop at its place that ends with its step; the step stands before each Continue of the For, too.
+-- The core has a loop for a Switch: what is made for the Switch has its place, but the test of a Case has the Case's, and
+-- the Else behind the Cases that of the Default. A Continue inside a Switch of its loop is a Store and a Break, so its
+-- place comes twice. A For is its start, and a loop at its place that ends with its step; the step stands before each
+-- Continue of the For, too.
 use Rattle.std.specs.Prelude.{Bool, true, false, ◌||◌, if◌then◌else◌, List, [], ◌∷◌, ◌++◌, Some, None}
 use Rattle.iasl_messages.specs.declared.place.Place.{Place}
 use Rattle.asl_tree.specs.declared.term.Control.TheVariants as Control
 use Rattle.asl_tree.specs.declared.term.Declaration.TheVariants as Declaration
 use Rattle.asl_tree.specs.declared.term.Op.{Op}
-use Rattle.term_places.specs.Places.{holds_terms}
-use Rattle.switch_loops.specs.Places.{Following, chain_places, else_places, turn_places, loop_places, continue_places, body_inside}
-use Rattle.asl_terms.specs.Plans.{Plan, omitted, a_form, Plans, no_plans, plan}
+use Rattle.switch_loops.specs.Places.{DefaultPlaces, body_inside, chain_places, continue_places, loop_places, own_places, turn_places}
+use Rattle.term_plans.specs.Plans.{Plan, omitted, a_form, Plans, no_plans, plan}
 use Rattle.asl_prints.specs.Nodes.{goes_in}
 
 -- whether a Continue leaves a form, by whether one leaves the terms in its braces
@@ -67,23 +66,26 @@ is_inside op inside = body_inside op inside
 -- Continue leaves the terms in its braces, and `steps` what the step of the For around it is, if that is in the same
 -- loop; `inner` are the places of the terms in its braces, and `chain` those of the tests of its Cases
 abbrev pub form_at : Op → Plans → (inside left : Bool) → (steps : List Place) → Place → (inner chain : List Place) → List Place
-form_at (Op.Control Control.ElseIf) args inside left steps place inner chain = place ∷ place ∷ inner
 form_at (Op.Control Control.For) args inside left steps place inner chain = start_places args ++ place ∷ (inner ++ step_places args)
 form_at (Op.Control Control.Switch) args inside left steps place inner chain = loop_places left inside place (turn_places place chain)
 form_at (Op.Control Control.Continue) args inside left steps place inner chain = steps ++ continue_places inside place
-form_at op args inside left steps place inner chain = place ∷ (if holds_terms op then inner else [])
+form_at op args inside left steps place inner chain = own_places op place inner
 
--- a Case before what follows its test; the Default is the last
-abbrev pub case_at : Op → Place → List Place → Following → Following
-case_at (Op.Control Control.Default) place inner following = Some (place, inner)
-case_at op place inner following = Some (place, (place ∷ inner) ++ else_places following)
+-- of what stands in a Switch, its Cases, and its Default
+abbrev pub case_at : Op → Place → List Place → List Place
+case_at (Op.Control Control.Default) place inner = []
+case_at op place inner = place ∷ inner
+
+abbrev pub default_at : Op → Place → List Place → DefaultPlaces → DefaultPlaces
+default_at (Op.Control Control.Default) place inner later = Some (place, inner)
+default_at op place inner later = later
 
 unfoldable mutual
   -- a term at a place
   pub core_places_at : (inside : Bool) → (steps : List Place) → Place → Plan → List Place
   core_places_at inside steps place (a_form op args body) =
       form_at op args inside (are_left body) steps place (core_places_in (is_inside op inside) (steps_inside op args steps) body)
-      (chain_places (cases_in (steps_inside op args steps) body))
+      (chain_places (cases_in (steps_inside op args steps) body) (default_in (steps_inside op args steps) body))
   core_places_at inside steps place _ = place ∷ []
 
   -- the terms of a list
@@ -91,11 +93,16 @@ unfoldable mutual
   core_places_in inside steps no_plans = []
   core_places_in inside steps (plan place p ps) = core_places_at inside steps place p ++ core_places_in inside steps ps
 
-  -- the Cases of a Switch
-  pub cases_in : (steps : List Place) → Plans → Following
-  cases_in steps no_plans = None
-  cases_in steps (plan place (a_form op args body) ps) = case_at op place (core_places_in true steps body) (cases_in steps ps)
+  -- the Cases of a Switch, and its Default
+  pub cases_in : (steps : List Place) → Plans → List Place
+  cases_in steps no_plans = []
+  cases_in steps (plan place (a_form op args body) ps) = case_at op place (core_places_in true steps body) ++ cases_in steps ps
   cases_in steps (plan place _ ps) = cases_in steps ps
+
+  pub default_in : (steps : List Place) → Plans → DefaultPlaces
+  default_in steps no_plans = None
+  default_in steps (plan place (a_form op args body) ps) = default_at op place (core_places_in true steps body) (default_in steps ps)
+  default_in steps (plan place _ ps) = default_in steps ps
 
 -- the terms of a program
 unfoldable pub core_places : Plans → List Place

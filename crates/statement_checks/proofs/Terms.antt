@@ -10,9 +10,9 @@ use Rattle.asl_tree.specs.declared.term.Node.{Node}
 use Rattle.asl_tree.specs.declared.term.Term.{Term}
 use Rattle.asl_tree.specs.declared.term.Term as D
 use Rattle.asl_tree.specs.declared.term.Term.TheVariants as V
-use Rattle.asl_terms.specs.Plans.{Plans, a_call, a_form, plan_of, plans_of, number_of}
-use Rattle.asl_terms.proofs.Plans.{plan_form, plan_call}
-use Rattle.asl_terms.proofs.Settled.{number_form, number_call}
+use Rattle.term_plans.specs.Plans.{Plans, a_call, a_form, plan_of, plans_of, number_of}
+use Rattle.term_plans.proofs.Plans.{plan_form, plan_call}
+use Rattle.term_plans.proofs.Lists.{number_form, number_call}
 use Rattle.asl_numbers.specs.Numbers.{inside, nodes}
 use Rattle.statement_checks.specs.declared.check.Around.{Around}
 use Rattle.statement_checks.specs.Statements.{around_body, misses_loop, told, term_errors, statement_errors}

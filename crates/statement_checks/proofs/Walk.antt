@@ -2,7 +2,7 @@
 use Rattle.std.proofs.Common.{◌≡◌, ℕ, zero, suc, ◌+◌, ◌<◌, ◌≤◌, List, [], ◌∷◌, ◌++◌, length, get_or, drop, append_assoc, append-nil, refl, sym, ap, ◌∙◌, arith}
 use Rattle.iasl_messages.specs.declared.message.Message.{Message}
 use Rattle.asl_tree.specs.declared.term.Node.{Node}
-use Rattle.asl_terms.specs.Plans.{no_plans, plan, plan_of, plans_of}
+use Rattle.term_plans.specs.Plans.{no_plans, plan, plan_of, plans_of}
 use Rattle.statement_checks.specs.declared.check.Around.{Around}
 use Rattle.statement_checks.specs.Statements.{term_errors, statement_errors}
 

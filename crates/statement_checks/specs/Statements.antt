@@ -5,8 +5,8 @@ use Rattle.iasl_messages.specs.declared.message.Message.{Message}
 use Rattle.asl_tree.specs.declared.term.Op.{Op}
 use Rattle.asl_tree.specs.declared.term.Declaration.{Declaration}
 use Rattle.asl_tree.specs.declared.term.Control.{Control}
-use Rattle.asl_terms.specs.Plans.{Plan, an_arg, a_call, a_form, Plans, no_plans, plan, plan_at, number_of}
-use Rattle.asl_terms.specs.Terms.{fault_at}
+use Rattle.term_plans.specs.Plans.{Plan, an_arg, a_call, a_form, Plans, no_plans, plan, plan_at, number_of}
+use Rattle.term_plans.specs.Places.{fault_at}
 use Rattle.statement_checks.specs.declared.check.Around.{Around}
 
 -- the terms of a block stand in no method, no loop and no Switch

@@ -1,7 +1,7 @@
 //! Loops and Switches that are left, and arguments of methods, checked.
 ghost use Rattle.std.specs.Prelude.{◌≡◌, ◌%◌, ◌++◌, true, false, IfOk, OnOk};
 ghost use Rattle.iasl_messages.specs.declared.place.Place.{Place as PlaceOfNode};
-ghost use Rattle.asl_terms.specs.Plans.{Plans, a_form, plan_at, plan_of, plans_of, number_of};
+ghost use Rattle.term_plans.specs.Plans.{Plans, a_form, plan_at, plan_of, plans_of, number_of};
 ghost use Rattle.statement_checks.specs.declared.check.Around.{Around as AroundTerm};
 ghost use Rattle.statement_checks.specs.Statements as spec;
 
@@ -24,7 +24,7 @@ pub struct Around {
     pub far: bool,
 }
 
-#[tactic(auto, using(asl_terms::proofs::Terms::integer_term, crate::proofs::Terms::no_number))]
+#[tactic(auto, using(term_plans::proofs::Terms::integer_term, crate::proofs::Terms::no_number))]
 fn number_in(term: &Term) -> u64
     ensures { result ≡ number_of (plan_of term.now) }
 {
@@ -35,7 +35,7 @@ fn number_in(term: &Term) -> u64
 }
 
 // How many arguments a method takes: the low three bits of its flags, which stand behind its name.
-#[tactic(auto, using(asl_terms::proofs::Settled::at_rules))]
+#[tactic(auto, using(term_plans::proofs::Lists::at_rules))]
 fn argument_count(args: &[Node]) -> u64
     ensures { result ≡ number_of (plan_at (plans_of args.now) 1) % 8 }
 {

@@ -10,7 +10,7 @@ use Rattle.asl_tree.specs.declared.term.NamedDescriptor.{NamedDescriptor}
 use Rattle.asl_tree.specs.Names.{declared_path, denoted}
 use Rattle.acpi_names.specs.Errors.{NameError, Missing, unless}
 use Rattle.acpi_names.specs.Mentions.{Mention, Used', Sought, Called, Declares, Outside, Opens}
-use Rattle.asl_terms.specs.Plans.{Plans}
+use Rattle.term_plans.specs.Plans.{Plans}
 use Rattle.asl_numbers.specs.Numbers.{numbered_all}
 use Rattle.descriptor_checks.specs.Resolved.{mentions_of, names_of, table_of}
 use Rattle.descriptor_checks.specs.Senses.{Sense, Nothing, descriptor_sense, sense_of}

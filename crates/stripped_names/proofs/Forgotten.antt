@@ -9,7 +9,7 @@ use Rattle.acpi_names.specs.Parts.{Agrees}
 use Rattle.acpi_names.specs.Paths.{number_in, is_flagged}
 use Rattle.acpi_names.specs.Tables.{entry_at, Tabled}
 use Rattle.acpi_names.specs.Terms.{are_terms}
-use Rattle.asl_terms.specs.Plans.{Plans}
+use Rattle.term_plans.specs.Plans.{Plans}
 use Rattle.asl_numbers.specs.Numbers.{numbered_all}
 use Rattle.descriptor_fields.specs.Declaring.{stripped}
 use Rattle.descriptor_checks.specs.Resolved.{table_of}

@@ -2,7 +2,7 @@
 use Rattle.std.proofs.Common.{◌≡◌, ℕ, suc, ◌+◌, refl, sym, ap, ◌∙◌, subst}
 use Rattle.asl_tree.specs.Tree.{At, Tree, Call, Misshapen, tree}
 use Rattle.asl_tree.specs.View.{form}
-use Rattle.asl_terms.specs.Plans.{Plan, a_call, a_form, Plans, no_plans, plan}
+use Rattle.term_plans.specs.Plans.{Plan, a_call, a_form, Plans, no_plans, plan}
 use Rattle.asl_numbers.specs.Numbers.{inside, nodes, numbered, numbered_all}
 use Rattle.unused_names.specs.Bare.{nowhere, bare, bare_all}
 use Rattle.unused_names.proofs.BareForms.{bare_form}

@@ -7,7 +7,7 @@ use Rattle.asl_meaning.specs.Declarations.{Declarations, declarations, is_named}
 use Rattle.acpi_names.specs.Errors.{Whole, whole_of, name_errors, type_errors}
 use Rattle.acpi_names.specs.Parts.{Agrees}
 use Rattle.acpi_names.specs.Terms.{are_terms}
-use Rattle.asl_terms.specs.Plans.{Plans}
+use Rattle.term_plans.specs.Plans.{Plans}
 use Rattle.asl_numbers.specs.Numbers.{numbered_all}
 use Rattle.descriptor_fields.specs.Declaring.{stripped}
 use Rattle.unused_names.specs.Left.{left_terms, is_descriptor, DescriptorsAreApart}

@@ -7,8 +7,8 @@ use Rattle.asl_tree.specs.declared.term.NamedDescriptor.{NamedDescriptor}
 use Rattle.asl_tree.specs.Tree.{At, Tree, Fill, Trees, tree}
 use Rattle.asl_tree.specs.View.{form}
 use Rattle.acpi_names.proofs.Plain.{is_plain, plain_form}
-use Rattle.asl_terms.specs.Plans.{Plan, a_fill, a_form, Plans, no_plans, plan, plan_at, join}
-use Rattle.asl_terms.specs.Plans.{named_of}
+use Rattle.term_plans.specs.Plans.{Plan, a_fill, a_form, Plans, no_plans, plan, plan_at, join}
+use Rattle.term_plans.specs.Plans.{named_of}
 use Rattle.asl_numbers.specs.Numbers.{inside, nodes, numbered, numbered_all}
 use Rattle.descriptor_fields.specs.Declaring.{has_terms, alone, is_naming, declared_by, unless_declared, closed, stripped}
 use Rattle.unused_names.specs.Bare.{nowhere, bare, bare_all}

@@ -11,8 +11,8 @@ use Rattle.asl_tree.specs.Tree.{At}
 use Rattle.asl_tree.specs.View.{form}
 use Rattle.asl_meaning.specs.Declarations.{nothing_declared}
 use Rattle.acpi_names.proofs.Plain.{plain_form}
-use Rattle.asl_terms.specs.Plans.{Plan, a_name, a_unit, a_form, Plans, no_plans, plan, plan_at}
-use Rattle.asl_terms.specs.Plans.{named_of}
+use Rattle.term_plans.specs.Plans.{Plan, a_name, a_unit, a_form, Plans, no_plans, plan, plan_at}
+use Rattle.term_plans.specs.Plans.{named_of}
 use Rattle.asl_numbers.specs.Numbers.{inside, nodes, numbered, numbered_all}
 use Rattle.descriptor_fields.specs.Declaring.{has_terms, is_naming, declared_by}
 use Rattle.descriptor_fields.specs.Nodes.{at_node, named_first, named_in, named_from}

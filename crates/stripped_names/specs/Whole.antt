@@ -2,7 +2,7 @@
 -- declares a descriptor.
 use Rattle.std.specs.Prelude.{Bool, true, false, []}
 use Rattle.asl_tree.specs.Tree.{Tree, Misshapen}
-use Rattle.asl_terms.specs.Plans.{Plan, a_fill, a_form, Plans, no_plans, plan, plan_at}
+use Rattle.term_plans.specs.Plans.{Plan, a_fill, a_form, Plans, no_plans, plan, plan_at}
 use Rattle.asl_numbers.specs.Numbers.{numbered}
 use Rattle.descriptor_fields.specs.Declaring.{has_terms, is_naming}
 use Rattle.unused_names.specs.Bare.{nowhere}

@@ -10,7 +10,7 @@ ghost use Rattle.acpi_names.specs.Tables.{Tabled};
 ghost use Rattle.acpi_names.specs.Terms.{are_terms};
 ghost use Rattle.asl_tree.specs.declared.term.NamedDescriptor.{NamedDescriptor};
 ghost use Rattle.asl_numbers.specs.Numbers.{numbered_all};
-ghost use Rattle.asl_terms.specs.Plans.{Plans};
+ghost use Rattle.term_plans.specs.Plans.{Plans};
 ghost use Rattle.descriptor_fields.specs.Declaring.{stripped};
 ghost use Rattle.descriptor_checks.specs.Resolved.{mentions_of, names_of, table_of};
 ghost use Rattle.descriptor_checks.specs.Senses.{Nothing};

@@ -9,7 +9,7 @@ use Rattle.asl_tree.specs.declared.term.Node.{Node}
 use Rattle.asl_tree.specs.declared.term.Term.{Term}
 use Rattle.asl_tree.specs.declared.term.Term as D
 use Rattle.asl_tree.specs.View.{trees_of}
-use Rattle.asl_terms.specs.Plans.{Plan, a_form, Plans, no_plans, plan, plan_of, row_plans, plans_of}
+use Rattle.term_plans.specs.Plans.{Plan, a_form, Plans, no_plans, plan, plan_of, row_plans, plans_of}
 use Rattle.form_presence.specs.Present.{has_op, have_op}
 use Rattle.form_presence.specs.Present as present
 use Rattle.switch_loops.specs.Switched.{is_switch, switches, switches_row, has_switch}

@@ -3,7 +3,7 @@ use Rattle.std.proofs.Common.{◌≡◌, ℕ, zero, suc, ◌+◌, ◌<◌, ◌�
 use Rattle.std.specs.Prelude.{slice_get}
 use Rattle.std.proofs.Math.Seq.{take-suc}
 use Rattle.asl_tree.specs.declared.term.Node.{Node}
-use Rattle.asl_terms.specs.Plans.{plan_of, plans_of, plan_at}
+use Rattle.term_plans.specs.Plans.{plan_of, plans_of, plan_at}
 use Rattle.statement_checks.proofs.Walk.{plans_at, no_more}
 use Rattle.switch_checks.specs.Values.{trimmed, trimmed_before, byte_of, alone_bytes, each_byte, buffer_bytes, size_in}
 

@@ -14,7 +14,7 @@ use Rattle.asl_tree.specs.declared.term.Symbolic.TheVariants as Symbolic
 use Rattle.acpi_state.specs.Outcomes.{choose}
 use Rattle.asl_tree.specs.Tree.{At, Tree, Integer, String, Omitted, Use, Package, VarPackage, Misshapen, Trees, no_trees, tree, count, Field, IndexField, BankField, UnitName}
 use Rattle.acpi_names.specs.Parts.{part_of}
-use Rattle.asl_terms.specs.Plans.{Plan, a_form, Plans}
+use Rattle.term_plans.specs.Plans.{Plan, a_form, Plans}
 use Rattle.switch_checks.specs.Locals.{method_errors, part_errors}
 
 no_items : (o : Option (List (FieldItem UnitName))) (p : Plan) (made : List (FieldItem UnitName) → Tree) → ((items : List (FieldItem UnitName)) → method_errors (made items) p ≡ []) → method_errors (choose o Misshapen made) p ≡ []

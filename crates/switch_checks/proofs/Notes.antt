@@ -8,7 +8,7 @@ use Rattle.iasl_messages.specs.declared.place.Place.{Place}
 use Rattle.iasl_messages.specs.declared.message.Message.{Message}
 use Rattle.acpi_values.specs.declared.width.Width.{Width}
 use Rattle.asl_tree.specs.declared.term.Node.{Node}
-use Rattle.asl_terms.specs.Plans.{Plan, plan_of, plans_of}
+use Rattle.term_plans.specs.Plans.{Plan, plan_of, plans_of}
 use Rattle.statement_checks.proofs.Walk.{plans_at, no_more}
 use Rattle.switch_checks.specs.declared.value.CaseValue as D
 use Rattle.switch_checks.specs.Told.{told}

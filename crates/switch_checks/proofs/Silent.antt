@@ -2,7 +2,7 @@
 use Rattle.std.proofs.Common.{◌≡◌, Bool, true, false, not, List, [], ◌∷◌, ◌++◌, refl}
 use Rattle.iasl_messages.specs.declared.place.Place.{Place}
 use Rattle.asl_tree.specs.Tree.{Tree, Method, Container', Scope, If, ElseIf, Else, While, For, Switch, Case, Default, Trees, no_trees, tree}
-use Rattle.asl_terms.specs.Plans.{Plan, Plans, plan_at}
+use Rattle.term_plans.specs.Plans.{Plan, Plans, plan_at}
 use Rattle.hidden_locals.specs.Switches.{IsEnough, is_enough, HasLocals, HaveLocalsInside, HaveLocals}
 use Rattle.hidden_locals.proofs.Enough.{enough_holds}
 use Rattle.switch_checks.specs.Told.{told}

@@ -12,8 +12,8 @@ use Rattle.acpi_names.specs.declared.part.NameRole.{NameRole}
 use Rattle.acpi_names.specs.declared.part.NameRole.TheVariants as P
 use Rattle.acpi_names.specs.declared.part.What.TheVariants as W
 use Rattle.acpi_names.specs.Parts.{part_of}
-use Rattle.asl_terms.specs.Plans.{Plans, plan_of, row_plans, plans_of}
-use Rattle.asl_terms.specs.Terms.{nowhere}
+use Rattle.term_plans.specs.Plans.{Plans, plan_of, row_plans, plans_of}
+use Rattle.term_plans.specs.Places.{nowhere}
 use Rattle.hidden_locals.specs.Switches.{is_enough}
 use Rattle.switch_loops.specs.Switched.{is_switch, switches, switches_row, has_switch}
 use Rattle.switch_loops.proofs.Switchless.{row_enough, nodes_enough}

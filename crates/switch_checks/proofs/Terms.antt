@@ -13,9 +13,9 @@ use Rattle.asl_tree.specs.declared.term.Node.{Node}
 use Rattle.asl_tree.specs.declared.term.Term.{Term}
 use Rattle.asl_tree.specs.declared.term.Term as D
 use Rattle.asl_tree.specs.declared.term.Term.TheVariants as V
-use Rattle.asl_terms.specs.Plans.{Plan, an_integer, a_text, a_fill, a_word, a_local, an_arg, debug, omitted, a_name, a_unit, a_skip, an_offset, an_access, a_call, a_form, Plans, plan_of, plans_of}
-use Rattle.asl_terms.proofs.Plans.{plan_form, plan_call}
-use Rattle.asl_terms.proofs.Terms.{integer_term, text_term}
+use Rattle.term_plans.specs.Plans.{Plan, an_integer, a_text, a_fill, a_word, a_local, an_arg, debug, omitted, a_name, a_unit, a_skip, an_offset, an_access, a_call, a_form, Plans, plan_of, plans_of}
+use Rattle.term_plans.proofs.Plans.{plan_form, plan_call}
+use Rattle.term_plans.proofs.Terms.{integer_term, text_term}
 use Rattle.statement_checks.proofs.Terms.{form_is}
 use Rattle.switch_loops.specs.Switched.{is_switch}
 use Rattle.switch_checks.specs.Values.{byte_of, alone_bytes, size_in, is_package, form_value, value_of}

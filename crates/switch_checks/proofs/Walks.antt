@@ -11,8 +11,8 @@ use Rattle.asl_tree.specs.View.{tree_of, trees_of, form}
 use Rattle.asl_tree.specs.Tree.{At}
 use Rattle.acpi_names.specs.Parts.{part_of}
 use Rattle.acpi_names.proofs.Trees.{form_tree, call_tree}
-use Rattle.asl_terms.specs.Plans.{Plan, a_form, plan_of, plans_of}
-use Rattle.asl_terms.proofs.Plans.{plan_form}
+use Rattle.term_plans.specs.Plans.{Plan, a_form, plan_of, plans_of}
+use Rattle.term_plans.proofs.Plans.{plan_form}
 use Rattle.asl_numbers.specs.Numbers.{inside, nodes}
 use Rattle.statement_checks.proofs.Walk.{plans_at, no_more}
 use Rattle.switch_checks.specs.Locals.{switch_in, first_switch, or_else, method_errors, all_method_errors, part_errors}

@@ -1,12 +1,12 @@
 -- The methods, and the block around them, that leave too few Locals for their Switches.
-use Rattle.std.specs.Prelude.{ℕ, Bool, true, false, not, List, [], ◌++◌, if◌then◌else◌, unwrap_or, Option, Some, None}
+use Rattle.std.specs.Prelude.{Bool, true, false, not, List, [], ◌++◌, if◌then◌else◌, unwrap_or, Option, Some, None}
 use Rattle.iasl_messages.specs.declared.place.Place.{Place}
 use Rattle.iasl_messages.specs.declared.message.Message.{Message}
 use Rattle.asl_tree.specs.declared.term.Op.{Op}
 use Rattle.asl_tree.specs.declared.term.Declaration.TheVariants as Declaration
 use Rattle.asl_tree.specs.Tree.{Tree, Method, Container', Scope, Trees, no_trees, tree, If, ElseIf, Else, While, For, Switch, Case, Default}
-use Rattle.asl_terms.specs.Plans.{Plan, a_form, Plans, no_plans, plan, plan_at}
-use Rattle.asl_terms.specs.Terms.{nowhere}
+use Rattle.term_plans.specs.Plans.{Plan, a_form, Plans, no_plans, plan, plan_at}
+use Rattle.term_plans.specs.Places.{nowhere}
 use Rattle.acpi_names.specs.declared.part.NameRole.{NameRole}
 use Rattle.acpi_names.specs.declared.part.NameRole.TheVariants as P
 use Rattle.acpi_names.specs.declared.part.What.{What}

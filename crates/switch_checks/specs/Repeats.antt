@@ -1,11 +1,11 @@
 -- The values that occur twice in a Switch (ACPI Specification 6.4, 19.6.11).
-use Rattle.std.specs.Prelude.{◌≡◌, ℕ, Bool, true, false, List, [], ◌∷◌, ◌++◌, Option, Some, None, if◌then◌else◌}
+use Rattle.std.specs.Prelude.{◌≡◌, Bool, true, false, List, [], ◌∷◌, ◌++◌, Option, Some, None, if◌then◌else◌}
 use Rattle.iasl_messages.specs.declared.place.Place.{Place}
 use Rattle.iasl_messages.specs.declared.message.Message.{Message}
 use Rattle.acpi_values.specs.declared.width.Width.{Width}
 use Rattle.asl_tree.specs.declared.term.Op.{Op}
 use Rattle.asl_tree.specs.declared.term.Control.TheVariants as Control
-use Rattle.asl_terms.specs.Plans.{Plan, a_form, Plans, no_plans, plan}
+use Rattle.term_plans.specs.Plans.{Plan, a_form, Plans, no_plans, plan}
 use Rattle.switch_loops.specs.Switched.{is_switch}
 use Rattle.switch_checks.specs.Told.{told}
 use Rattle.switch_checks.specs.Values.{CaseValue, value_of, is_package, occurs}

@@ -9,7 +9,7 @@ use Rattle.acpi_values.specs.declared.width.Width.{Width}
 use Rattle.asl_tree.specs.Literals.{literal_number}
 use Rattle.asl_tree.specs.declared.term.Op.{Op}
 use Rattle.asl_tree.specs.declared.term.Special.TheVariants as Special
-use Rattle.asl_terms.specs.Plans.{Plan, an_integer, a_text, a_fill, a_form, Plans, no_plans, plan, plan_at, number_of}
+use Rattle.term_plans.specs.Plans.{Plan, an_integer, a_text, a_fill, a_form, Plans, no_plans, plan, plan_at, number_of}
 use Rattle.switch_checks.specs.declared.value.CaseValue as D
 
 -- an Integer, a String, or a Buffer of so many bytes, which are zeros behind those that are listed

@@ -2,7 +2,7 @@
 ghost use Rattle.std.specs.Prelude.{◌≡◌, ℕ, List, [], Option};
 ghost use Rattle.std.specs.Str.{bytes_eq};
 ghost use Rattle.asl_tree.specs.Tree.{Trees};
-ghost use Rattle.asl_terms.specs.Plans.{Plans};
+ghost use Rattle.term_plans.specs.Plans.{Plans};
 ghost use Rattle.hidden_locals.specs.Switches.{HaveLocals};
 ghost use Rattle.switch_checks.specs.Locals.{few_locals};
 ghost use Rattle.switch_checks.specs.Values.{buffer_of, filled, is_same};

@@ -1,7 +1,7 @@
 //! Methods that leave too few Locals for their Switches.
 ghost use Rattle.std.specs.Prelude.{◌≡◌, ◌++◌, length, unwrap_or, IfOk, OnOk};
-ghost use Rattle.asl_terms.specs.Plans.{plan_of, plans_of};
-ghost use Rattle.asl_terms.specs.Terms.{nowhere as no_place};
+ghost use Rattle.term_plans.specs.Plans.{plan_of, plans_of};
+ghost use Rattle.term_plans.specs.Places.{nowhere as no_place};
 ghost use Rattle.asl_tree.specs.View.{trees_of};
 ghost use Rattle.acpi_names.specs.Parts.{part_of};
 ghost use Rattle.switch_checks.specs.Locals as spec;

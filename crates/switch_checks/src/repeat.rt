@@ -1,7 +1,7 @@
 //! Values of Cases that occur twice.
 ghost use Rattle.std.specs.Prelude.{◌≡◌, ◌++◌, Some, slice_get, IfOk, OnOk};
 ghost use Rattle.std.specs.Option.{option_copied};
-ghost use Rattle.asl_terms.specs.Plans.{plan_of, plans_of};
+ghost use Rattle.term_plans.specs.Plans.{plan_of, plans_of};
 ghost use Rattle.switch_checks.specs.Repeats as spec;
 ghost use Rattle.switch_checks.specs.Values.{shown, values_in};
 

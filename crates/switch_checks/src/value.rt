@@ -1,7 +1,7 @@
 //! What the values of Cases are compared by.
 ghost use Rattle.std.specs.Prelude.{◌≡◌, ◌%◌, ◌≤◌, ◌∷◌, ◌++◌, [], take, length, max, unwrap_or, slice_get, IfOk};
 ghost use Rattle.std.specs.Option.{option_copied, option_map};
-ghost use Rattle.asl_terms.specs.Plans.{number_of, plan_at, plan_of, plans_of};
+ghost use Rattle.term_plans.specs.Plans.{number_of, plan_at, plan_of, plans_of};
 ghost use Rattle.switch_checks.specs.Values as spec;
 
 use acpi_values::integer::wrap;
@@ -31,7 +31,7 @@ pub(crate) fn is_package(op: Op) -> bool
     matches!(op, Op::Special(Special::Package))
 }
 
-#[tactic(auto, using(asl_terms::proofs::Terms::integer_term, statement_checks::proofs::Terms::no_number))]
+#[tactic(auto, using(term_plans::proofs::Terms::integer_term, statement_checks::proofs::Terms::no_number))]
 fn number_in(term: &Term) -> u64
     ensures { result ≡ number_of (plan_of term.now) }
 {
@@ -66,7 +66,7 @@ fn string_bytes(alloc: Global, text: &[u8]) -> Result<Vec<u8>, AllocError>
 }
 
 // The bytes of what stands alone in the braces of a Buffer.
-#[tactic(auto, using(asl_terms::proofs::Terms::text_term, asl_terms::proofs::Terms::fill_term, crate::proofs::Terms::byte_alone))]
+#[tactic(auto, using(term_plans::proofs::Terms::text_term, term_plans::proofs::Terms::fill_term, crate::proofs::Terms::byte_alone))]
 fn alone_bytes(alloc: Global, term: &Term) -> Result<Vec<u8>, AllocError>
     ensures { IfOk result (λ bytes. bytes.items ≡ spec.alone_bytes (plan_of term.now)) }
 {
@@ -111,7 +111,7 @@ fn trimmed_count(bytes: &[u8]) -> usize
 }
 
 // A size that is written.
-#[tactic(auto, using(asl_terms::proofs::Terms::integer_term, crate::proofs::Terms::no_size))]
+#[tactic(auto, using(term_plans::proofs::Terms::integer_term, crate::proofs::Terms::no_size))]
 fn size_in(term: &Term) -> Option<u64>
     ensures { result ≡ spec.size_in (plan_of term.now) }
 {

@@ -1,9 +1,9 @@
 -- Plans that give the same Locals make the same loops.
-use Rattle.std.proofs.Common.{◌≡◌, ℕ, suc, ◌+◌, Bool, true, false, List, [], ◌∷◌, Option, Some, drop, refl, ap, ◌∙◌, arith}
+use Rattle.std.proofs.Common.{◌≡◌, ℕ, suc, ◌+◌, Bool, true, false, List, [], ◌∷◌, drop, refl, ap, ◌∙◌, arith}
 use Rattle.asl_tree.specs.Tree.{Tree, Container', Scope, If, ElseIf, Else, While, Switch, Case, Default, Break, Continue, Trees, no_trees, tree}
 use Rattle.hidden_locals.specs.Crossing.{have_continue}
-use Rattle.hidden_locals.specs.Turns.{Plan, nth, local, flag, stored, zero_word, one_word, value_local, else_of, loop_of, loop_terms, continue_terms}
-use Rattle.hidden_locals.specs.Switches.{case_test, chain_of, unswitched, unswitched_all, links, default_link}
+use Rattle.hidden_locals.specs.Turns.{Plan, nth, local, flag, stored, zero_word, one_word, value_local, loop_of, loop_terms, continue_terms}
+use Rattle.hidden_locals.specs.Switches.{case_test, opened, unswitched, unswitched_all, links, default_link}
 use Rattle.switch_loops.specs.Links.{plan_as}
 
 abbrev pub Same : Plan → ℕ → Plan → ℕ → Type 0
@@ -46,26 +46,26 @@ mutual
   pub same_terms : (p q : Plan) (l m : ℕ) → Same p l q m → (inside : Bool) (ts : Trees) → unswitched_all p l inside ts ≡ unswitched_all q m inside ts
   same_terms p q l m s inside no_trees = refl
   same_terms p q l m s inside (tree (Switch value cases) rest) =
-      same_loop p q (have_continue cases) inside (loop_of value (value_local p l) (chain_of (links p l cases (default_link p l cases)))) (unswitched_all p l inside rest) s.0
-      ∙ ap (λ ts. loop_terms q (have_continue cases) inside (loop_of value (value_local p l) (chain_of (links p l cases (default_link p l cases)))) ts) (same_terms p q l m s inside rest)
-      ∙ ap (λ x. loop_terms q (have_continue cases) inside (loop_of value x (chain_of (links p l cases (default_link p l cases)))) (unswitched_all q m inside rest)) (same_value p q l m s)
-      ∙ ap (λ o. loop_terms q (have_continue cases) inside (loop_of value (value_local q m) (chain_of o)) (unswitched_all q m inside rest)) (same_links p q l m s cases (default_link p l cases) (default_link q m cases) (same_default p q l m s cases))
+      same_loop p q (have_continue cases) inside (loop_of value (value_local p l) (opened (links p l cases (default_link p l cases)))) (unswitched_all p l inside rest) s.0
+      ∙ ap (λ ts. loop_terms q (have_continue cases) inside (loop_of value (value_local p l) (opened (links p l cases (default_link p l cases)))) ts) (same_terms p q l m s inside rest)
+      ∙ ap (λ x. loop_terms q (have_continue cases) inside (loop_of value x (opened (links p l cases (default_link p l cases)))) (unswitched_all q m inside rest)) (same_value p q l m s)
+      ∙ ap (λ o. loop_terms q (have_continue cases) inside (loop_of value (value_local q m) (opened o)) (unswitched_all q m inside rest)) (same_links p q l m s cases (default_link p l cases) (default_link q m cases) (same_default p q l m s cases))
   same_terms p q l m s inside (tree Continue rest) =
       same_continue p q inside (unswitched_all p l inside rest) s.0 ∙ ap (continue_terms q inside) (same_terms p q l m s inside rest)
   same_terms p q l m s inside (tree t rest) =
       ap (λ x. tree x (unswitched_all p l inside rest)) (same_term p q l m s inside t) ∙ ap (tree (unswitched q m inside t)) (same_terms p q l m s inside rest)
 
-  same_links : (p q : Plan) (l m : ℕ) → Same p l q m → (ts : Trees) (d e : Option Trees) → d ≡ e → links p l ts d ≡ links q m ts e
+  same_links : (p q : Plan) (l m : ℕ) → Same p l q m → (ts d e : Trees) → d ≡ e → links p l ts d ≡ links q m ts e
   same_links p q l m s no_trees d e h = h
   same_links p q l m s (tree (Case value body) rest) d e h =
-      ap (λ x. Some (tree (If (case_test x value) (unswitched_all p (suc l) true body)) (else_of (links p l rest d)))) (same_value p q l m s)
-      ∙ ap (λ ts. Some (tree (If (case_test (value_local q m) value) ts) (else_of (links p l rest d)))) (same_terms p q (suc l) (suc m) (deeper p q l m s) true body)
-      ∙ ap (λ o. Some (tree (If (case_test (value_local q m) value) (unswitched_all q (suc m) true body)) (else_of o))) (same_links p q l m s rest d e h)
+      ap (λ x. tree (ElseIf (case_test x value) (unswitched_all p (suc l) true body)) (links p l rest d)) (same_value p q l m s)
+      ∙ ap (λ ts. tree (ElseIf (case_test (value_local q m) value) ts) (links p l rest d)) (same_terms p q (suc l) (suc m) (deeper p q l m s) true body)
+      ∙ ap (tree (ElseIf (case_test (value_local q m) value) (unswitched_all q (suc m) true body))) (same_links p q l m s rest d e h)
   same_links p q l m s (tree t rest) d e h = same_links p q l m s rest d e h
 
   same_default : (p q : Plan) (l m : ℕ) → Same p l q m → (ts : Trees) → default_link p l ts ≡ default_link q m ts
   same_default p q l m s no_trees = refl
-  same_default p q l m s (tree (Default body) rest) = ap Some (same_terms p q (suc l) (suc m) (deeper p q l m s) true body)
+  same_default p q l m s (tree (Default body) rest) = ap (λ ts. tree (Else ts) no_trees) (same_terms p q (suc l) (suc m) (deeper p q l m s) true body)
   same_default p q l m s (tree t rest) = same_default p q l m s rest
 
 -- the Locals that are left one level deeper

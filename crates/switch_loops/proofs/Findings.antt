@@ -10,9 +10,7 @@ use Rattle.asl_tree.specs.declared.term.Term as D
 use Rattle.asl_tree.specs.Tree.{At, Trees, tree}
 use Rattle.asl_tree.specs.View.{form, tree_of, trees_of}
 use Rattle.acpi_names.specs.Walked.{node_tree}
-use Rattle.asl_lower.specs.Places.{has_terms, lowered_at, lowered_places}
-use Rattle.asl_lower.specs.Places as lowered
-use Rattle.asl_lower.proofs.Places.{form_lowered}
+use Rattle.term_places.specs.Places.{holds_terms, inner_places, places_of, term_places}
 use Rattle.asl_lower.proofs.Turns.{any_default}
 use Rattle.hidden_locals.specs.Crossing.{have_continue}
 use Rattle.hidden_locals.specs.Switches.{plan_of, without_switches}
@@ -21,7 +19,7 @@ use Rattle.switch_loops.specs.Braces.{braces_of}
 use Rattle.switch_loops.specs.Found.{joined, IsSoOf, IsSoIn}
 use Rattle.switch_loops.specs.Kinds.{form_kind}
 use Rattle.switch_loops.specs.Links.{in_braces, looped_all, plan_as, put}
-use Rattle.switch_loops.specs.Places.{body_inside, cases_places, chain_places, first_default_places, form_places, looped_at, looped_places}
+use Rattle.switch_loops.specs.Places.{body_inside, cases_places, chain_places, first_default_places, form_places, own_places, looped_at, looped_places}
 use Rattle.switch_loops.specs.Switched.{is_switch}
 use Rattle.switch_loops.specs.declared.braces.Braces.{Braces}
 use Rattle.switch_loops.specs.declared.found.Found.{Found}
@@ -30,6 +28,7 @@ use Rattle.switch_loops.proofs.Alike.{same_terms, plan_whole}
 use Rattle.switch_loops.proofs.InPlace.{other_holds, other_within, terms_within, method_within}
 use Rattle.switch_loops.proofs.Keeping.{no_switch, continue_is}
 use Rattle.switch_loops.proofs.LoopPlaces.{flat_place, form_placed, inner_same, kept_kind, not_formed}
+use Rattle.switch_loops.proofs.MadeRows.{form_terms}
 use Rattle.switch_loops.proofs.PutRows.{put_form}
 use Rattle.switch_loops.proofs.Puts.{continue_form, flat_kept, form_is, put_step}
 
@@ -66,14 +65,14 @@ form_alike flag other values others at op args body rest s inner = by_kind (form
         let nor : form_kind op args body ≡ TermRole.Continue → ⊥ = λ x. let f : k ≡ TermRole.Continue = sym e ∙ x in absurd cc in
         put_form flag values false at op args body never nor rest ∙ ap (λ ts. tree (form at op args ts) rest) inner ∙ sym (put_form other others false at op args body never nor rest)
 
-form_place_stays : (place : Place) (op : Op) (args body : Trees) (crossed : Bool) (inner places chain : List Place) → is_switch op ≡ false → (has_terms op ≡ true → inner ≡ places)
-    → form_places (form_kind op args body) op args false crossed place inner chain ≡ lowered.form_places op args place places
-form_place_stays place op args body crossed inner places chain s h = by_kind (form_kind op args body) refl ∙ inner_same op args place inner places h
+form_place_stays : (place : Place) (op : Op) (args body : Trees) (crossed : Bool) (inner places chain : List Place) → is_switch op ≡ false → (holds_terms op ≡ true → inner ≡ places)
+    → form_places (form_kind op args body) op false crossed place inner chain ≡ own_places op place places
+form_place_stays place op args body crossed inner places chain s h = by_kind (form_kind op args body) refl ∙ inner_same op place inner places h
   where
-    by_kind : (k : TermRole) → form_kind op args body ≡ k → form_places k op args false crossed place inner chain ≡ lowered.form_places op args place inner
+    by_kind : (k : TermRole) → form_kind op args body ≡ k → form_places k op false crossed place inner chain ≡ own_places op place inner
     by_kind TermRole.Switch e = absurd (no_switch op args body s e)
-    by_kind TermRole.Continue e = ap (λ o. lowered.form_places o args place inner) (sym (continue_is op args body e))
-    by_kind k e = kept_kind k op args false crossed place inner chain (λ x. absurd cc) (λ x. absurd cc)
+    by_kind TermRole.Continue e = ap (λ o. own_places o place inner) (sym (continue_is op args body e))
+    by_kind k e = kept_kind k op false crossed place inner chain (λ x. absurd cc) (λ x. absurd cc)
 
 -- the same of a node
 node_stays : (flag : ℕ) (values : List ℕ) (at : At) (t : Term) (op : Op) (args body : Vec Node Global) (rest : Trees) → t ≡ D.Form op args body → is_switch op ≡ false → in_braces flag values false op (trees_of body.items) ≡ trees_of body.items
@@ -88,12 +87,12 @@ node_alike flag other values others at t op args body rest e s inner =
     let same = form_is at t op args body e in
     ap (λ t. put flag values false t rest) same ∙ form_alike flag other values others at op (trees_of args.items) (trees_of body.items) rest s inner ∙ ap (λ t. put other others false t rest) (sym same)
 
-place_stays : (place : Place) (t : Term) (op : Op) (args body : Vec Node Global) → t ≡ D.Form op args body → is_switch op ≡ false → (has_terms op ≡ true → looped_places (body_inside op false) body.items ≡ lowered_places body.items)
-    → looped_at false place t ≡ lowered_at place t
+place_stays : (place : Place) (t : Term) (op : Op) (args body : Vec Node Global) → t ≡ D.Form op args body → is_switch op ≡ false → (holds_terms op ≡ true → looped_places (body_inside op false) body.items ≡ places_of body.items)
+    → looped_at false place t ≡ (place ∷ inner_places t)
 place_stays place t op args body e s h =
     sym (form_placed false place t op args body e)
-    ∙ form_place_stays place op (trees_of args.items) (trees_of body.items) (have_continue (trees_of body.items)) (looped_places (body_inside op false) body.items) (lowered_places body.items) (chain_places (cases_places body.items (first_default_places body.items))) s h
-    ∙ sym (form_lowered place op args body) ∙ ap (lowered_at place) (sym e)
+    ∙ form_place_stays place op (trees_of args.items) (trees_of body.items) (have_continue (trees_of body.items)) (looped_places (body_inside op false) body.items) (places_of body.items) (chain_places (cases_places body.items) (first_default_places body.items)) s h
+    ∙ sym (form_terms place op args body) ∙ ap (λ t. place ∷ inner_places t) (sym e)
 
 -- ---- a node by what is found in its braces
 
@@ -101,7 +100,7 @@ pub terms_found : (found : Found) (node : Node) (op : Op) (args body : Vec Node 
 terms_found Found.Nothing node op args body ys e f b h =
     let s = no_cases op (λ x. let g : Braces.Terms ≡ Braces.Cases = sym b ∙ x in absurd cc) in (
       λ flag values rest. node_stays flag values (record { id = node.id; place = node.place }) node.term op args body rest e s (terms_within flag values false op (trees_of body.items) b ∙ ap (λ c. looped_all flag values c (trees_of body.items)) (outside op) ∙ inner flag values),
-      place_stays node.place node.term op args body e s (λ x. ap (λ c. looped_places c body.items) (outside op) ∙ ap (looped_places false) (sym f) ∙ h.1 ∙ ap lowered_places f),
+      place_stays node.place node.term op args body e s (λ x. ap (λ c. looped_places c body.items) (outside op) ∙ ap (looped_places false) (sym f) ∙ h.1 ∙ ap places_of f),
     )
   where
     inner : (flag : ℕ) (values : List ℕ) → looped_all flag values false (trees_of body.items) ≡ trees_of body.items
@@ -173,11 +172,11 @@ stay flag values (node ∷ nodes) h =
     sym (put_step flag values false (node_tree node) (trees_of nodes)) ∙ ap (put flag values false (node_tree node)) (stay flag values nodes (λ k lt e. h (suc k) (omega (arith, lt)) e))
     ∙ (h 0 (omega arith) node).0 flag values (trees_of nodes)
 
-places_stay : (nodes : List Node) → ((k : ℕ) → k < length nodes → (e : Node) → IsSoOf Found.Nothing (get_or nodes k e)) → looped_places false nodes ≡ lowered_places nodes
-unfolding looped_places lowered_places
+places_stay : (nodes : List Node) → ((k : ℕ) → k < length nodes → (e : Node) → IsSoOf Found.Nothing (get_or nodes k e)) → looped_places false nodes ≡ places_of nodes
+unfolding looped_places places_of
 places_stay [] h = refl
 places_stay (node ∷ nodes) h =
-    ap (λ ps. ps ++ looped_places false nodes) (h 0 (omega arith) node).1 ∙ ap (λ ps. lowered_at node.place node.term ++ ps) (places_stay nodes (λ k lt e. h (suc k) (omega (arith, lt)) e))
+    ap (λ ps. ps ++ looped_places false nodes) (h 0 (omega arith) node).1 ∙ ap (λ ps. term_places node ++ ps) (places_stay nodes (λ k lt e. h (suc k) (omega (arith, lt)) e))
 
 alike : (flag other : ℕ) (values others : List ℕ) (nodes : List Node) → ((k : ℕ) → k < length nodes → (e : Node) → IsSoOf Found.Methods (get_or nodes k e)) → looped_all flag values false (trees_of nodes) ≡ looped_all other others false (trees_of nodes)
 unfolding trees_of

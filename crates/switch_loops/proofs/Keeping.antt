@@ -107,7 +107,7 @@ continue_node flag values inside node rest e =
 pub continue_at : (inside : Bool) (place : Place) (t : Term) → shape_kind (term_shape t) ≡ TermRole.Continue → continue_places inside place ≡ looped_at inside place t
 unfolding looped_at
 continue_at inside place (D.Form' op shape args shape' body) e =
-    sym (ap (λ k. form_places k op (row_trees args) inside (have_continue (row_trees body)) place (looped_row (body_inside op inside) body) (chain_places (cases_row body (default_row body)))) e)
+    sym (ap (λ k. form_places k op inside (have_continue (row_trees body)) place (looped_row (body_inside op inside) body) (chain_places (cases_row body) (default_row body))) e)
 continue_at inside place t e = absurd cc
 
 module _ (at : At) (t : Term) (op : Op) (args body : Vec Node Global) (is : t ≡ D.Form op args body) (kind : shape_kind (term_shape t) ≡ TermRole.Switch) where
@@ -123,7 +123,7 @@ module _ (at : At) (t : Term) (op : Op) (args body : Vec Node Global) (is : t �
   pub switch_places : (inside : Bool) (place : Place) → looped_at inside place t ≡ switch_looped inside place body.items
   switch_places inside place =
       sym (form_placed inside place t op args body is)
-      ∙ ap (λ k. form_places k op (trees_of args.items) inside (have_continue (trees_of body.items)) place (looped_places (body_inside op inside) body.items) (chain_places (cases_places body.items (first_default_places body.items)))) switch_kind
+      ∙ ap (λ k. form_places k op inside (have_continue (trees_of body.items)) place (looped_places (body_inside op inside) body.items) (chain_places (cases_places body.items) (first_default_places body.items))) switch_kind
 
 pub no_switch_here : (t : Term) → ((o : Op) (v w : Vec Node Global) → t ≡ D.Form o v w → ⊥) → shape_kind (term_shape t) ≡ TermRole.Switch → ⊥
 no_switch_here t never e = let f : TermRole.Other ≡ TermRole.Switch = sym (flat_kind t (not_formed t never)) ∙ e in absurd cc

@@ -1,6 +1,6 @@
 -- The trees and the places of nodes that are made.
-use Rattle.std.proofs.Common.{◌≡◌, ℕ, List, [], ◌∷◌, ◌++◌, reverse, Vec, Global, refl, sym, ap, ◌∙◌, append_assoc}
-use Rattle.std.proofs.lemmas.List.{append-nil, reverse-append}
+use Rattle.std.proofs.Common.{◌≡◌, ℕ, List, [], ◌∷◌, ◌++◌, reverse, Vec, Global, refl, ap, ◌∙◌}
+use Rattle.std.proofs.lemmas.List.{reverse-append}
 use Rattle.iasl_messages.specs.declared.place.Place.{Place}
 use Rattle.acpi_values.specs.declared.operator.IntOp.TheVariants as IntOp
 use Rattle.acpi_values.specs.declared.operator.DataOp.TheVariants as DataOp
@@ -19,8 +19,9 @@ use Rattle.asl_tree.specs.View.{apply_of, operands_as, form, tree_of, trees_of}
 use Rattle.acpi_names.specs.Walked.{node_tree}
 use Rattle.acpi_names.proofs.Trees.{form_tree}
 use Rattle.hidden_locals.specs.Turns.{local, stored, equal}
-use Rattle.asl_lower.specs.Places.{form_places, lowered_at, lowered_places}
-use Rattle.asl_lower.proofs.Places.{form_lowered}
+use Rattle.term_places.specs.Places.{inner_places, term_places, places_of}
+use Rattle.term_places.proofs.Places.{form_places, no_places, places_cons}
+use Rattle.switch_loops.specs.Places.{own_places}
 use Rattle.switch_loops.specs.Given.{HasValue}
 
 pub none : trees_of [] ≡ no_trees
@@ -50,39 +51,23 @@ operator_made at op args body first second e f =
     form_tree at (Op.Plain op) args body ∙ ap (λ ns. form at (Op.Plain op) (trees_of ns) (trees_of body.items)) e ∙ ap (λ ns. form at (Op.Plain op) (trees_of (first ∷ second ∷ [])) (trees_of ns)) f
     ∙ ap (form at (Op.Plain op) (trees_of (first ∷ second ∷ []))) none ∙ ap (λ ts. form at (Op.Plain op) ts no_trees) (two first second)
 
-pub operator_placed : (place : Place) (op : Plain) (args body : Vec Node Global) → lowered_at place (D.Form (Op.Plain op) args body) ≡ place ∷ []
-operator_placed place op args body = form_lowered place (Op.Plain op) args body
+pub form_terms : (place : Place) (op : Op) (args body : Vec Node Global) → place ∷ inner_places (D.Form op args body) ≡ own_places op place (places_of body.items)
+form_terms place op args body = ap (λ ps. place ∷ ps) (form_places op args body)
+
+pub operator_placed : (place : Place) (op : Plain) (args body : Vec Node Global) → place ∷ inner_places (D.Form (Op.Plain op) args body) ≡ place ∷ []
+operator_placed place op args body = form_terms place (Op.Plain op) args body
 
 -- ---- places of lists
 
-pub lowered_none : lowered_places [] ≡ []
-unfolding lowered_places
-lowered_none = refl
+pub pushed_places : (old new : List Node) (node : Node) → new ≡ old ++ node ∷ [] → places_of (reverse new) ≡ term_places node ++ places_of (reverse old)
+pushed_places old new node e = ap (λ ns. places_of (reverse ns)) e ∙ ap places_of (reverse-append old (node ∷ [])) ∙ places_cons node (reverse old)
 
-pub lowered_cons : (node : Node) (nodes : List Node) → lowered_places (node ∷ nodes) ≡ lowered_at node.place node.term ++ lowered_places nodes
-unfolding lowered_places
-lowered_cons node nodes = refl
-
-pub lowered_single : (node : Node) → lowered_places (node ∷ []) ≡ lowered_at node.place node.term
-unfolding lowered_places
-lowered_single node = append-nil (lowered_at node.place node.term)
-
-pub lowered-append : (xs ys : List Node) → lowered_places (xs ++ ys) ≡ lowered_places xs ++ lowered_places ys
-unfolding lowered_places
-lowered-append [] ys = refl
-lowered-append (x ∷ xs) ys = ap (λ ps. lowered_at x.place x.term ++ ps) (lowered-append xs ys) ∙ sym (append_assoc (lowered_at x.place x.term) (lowered_places xs) (lowered_places ys))
-
-pub pushed_places : (old new : List Node) (node : Node) → new ≡ old ++ node ∷ [] → lowered_places (reverse new) ≡ lowered_at node.place node.term ++ lowered_places (reverse old)
-pushed_places old new node e = ap (λ ns. lowered_places (reverse ns)) e ∙ ap lowered_places (reverse-append old (node ∷ [])) ∙ lowered_cons node (reverse old)
-
-bare_place : (op : Control) (place : Place) → form_places (Op.Control op) no_trees place [] ≡ place ∷ []
+bare_place : (op : Control) (place : Place) → own_places (Op.Control op) place [] ≡ place ∷ []
 bare_place C.If place = refl
 bare_place op place = refl
 
-pub bare_placed : (op : Control) (place : Place) (args body : List Node) → args ≡ [] → body ≡ [] → form_places (Op.Control op) (trees_of args) place (lowered_places body) ≡ place ∷ []
-bare_placed op place args body e f =
-    ap (λ ns. form_places (Op.Control op) (trees_of ns) place (lowered_places body)) e ∙ ap (λ ts. form_places (Op.Control op) ts place (lowered_places body)) none
-    ∙ ap (λ ns. form_places (Op.Control op) no_trees place (lowered_places ns)) f ∙ ap (form_places (Op.Control op) no_trees place) lowered_none ∙ bare_place op place
+pub bare_placed : (op : Control) (place : Place) (body : List Node) → body ≡ [] → own_places (Op.Control op) place (places_of body) ≡ place ∷ []
+bare_placed op place body f = ap (λ ns. own_places (Op.Control op) place (places_of ns)) f ∙ ap (own_places (Op.Control op) place) no_places ∙ bare_place op place
 
 pub bare_made : (at : At) (op : Op) (args body : List Node) → args ≡ [] → body ≡ [] → form at op (trees_of args) (trees_of body) ≡ form at op no_trees no_trees
 bare_made at op args body e f = ap (λ ns. form at op (trees_of ns) (trees_of body)) e ∙ ap (λ ns. form at op (trees_of []) (trees_of ns)) f ∙ ap (λ ts. form at op ts ts) none

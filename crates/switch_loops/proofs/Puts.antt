@@ -1,12 +1,12 @@
 -- Lists of terms that loops are put into, from the last term on.
-use Rattle.std.proofs.Common.{◌≡◌, ℕ, Bool, true, false, List, [], ◌∷◌, ◌++◌, length, drop, Vec, Global, Option, Some, refl, sym, ap, subst, ◌∙◌, arith}
+use Rattle.std.proofs.Common.{◌≡◌, ℕ, Bool, true, false, List, [], ◌∷◌, ◌++◌, length, reverse, drop, Vec, Global, Option, Some, refl, sym, ap, subst, ◌∙◌, arith}
 use Rattle.std.specs.Prelude.{not, ◌&&◌, if◌then◌else◌, filter}
 use Rattle.asl_tree.specs.declared.term.Op.{Op}
 use Rattle.asl_tree.specs.declared.term.Control.TheVariants as Control
 use Rattle.asl_tree.specs.declared.term.Node.{Node}
 use Rattle.asl_tree.specs.declared.term.Term.{Term}
 use Rattle.asl_tree.specs.declared.term.Term as D
-use Rattle.asl_tree.specs.Tree.{At, Tree, If, Switch, Case, Default, Continue, Trees, no_trees, tree}
+use Rattle.asl_tree.specs.Tree.{At, Tree, ElseIf, Else, Switch, Case, Default, Continue, Trees, no_trees, tree}
 use Rattle.asl_tree.specs.View.{form, tree_of, row_trees, trees_of}
 use Rattle.acpi_names.specs.declared.part.NameRole.{NameRole}
 use Rattle.acpi_names.specs.declared.part.NameRole.TheVariants as P
@@ -15,12 +15,13 @@ use Rattle.acpi_names.specs.Parts.{are, is_form, part_of}
 use Rattle.acpi_names.specs.Walked.{term_shape, node_tree}
 use Rattle.acpi_names.proofs.Trees.{are_long, form_tree, form_rows}
 use Rattle.std.proofs.lemmas.Bool.Decides.{nat_tests}
+use Rattle.std.proofs.lemmas.List.{reverse-append}
 use Rattle.asl_lower.specs.Nests.{backwards}
-use Rattle.hidden_locals.specs.Switches.{case_test, links, default_link}
-use Rattle.hidden_locals.specs.Turns.{local, nth, else_of}
+use Rattle.hidden_locals.specs.Switches.{case_test, opened, links, default_link}
+use Rattle.hidden_locals.specs.Turns.{local, nth}
 use Rattle.switch_loops.specs.Given.{HasValue, HasCaseValue, IsGiven, AreGiven}
 use Rattle.switch_loops.specs.Kinds.{flagged, part_kind, form_kind, shape_kind, is_default, default_node}
-use Rattle.switch_loops.specs.Links.{plan_as, looped_all, put, linked, shape_body, given_default, default_looped, first_default}
+use Rattle.switch_loops.specs.Links.{plan_as, looped_all, put, linked, behind, shape_body, given_default, default_looped, first_default}
 use Rattle.switch_loops.specs.declared.kind.TermRole.{TermRole}
 use Rattle.switch_loops.proofs.KindRows.{tree_kind, kind_form, kind_is}
 use Rattle.switch_loops.proofs.Alike.{same_terms, left_deeper}
@@ -145,60 +146,52 @@ continue_form at op args body k = by_kind (form at op args body) (kind_form at o
 
 -- ---- Cases
 
-other_linked : (flag : ℕ) (values : List ℕ) (t : Tree) (d : Option Trees) → (tree_kind t ≡ TermRole.Case → ⊥) → linked flag values t d ≡ d
-other_linked flag values (Case value body) d never = absurd (never refl)
-other_linked flag values t d never = refl
+other_linked : (flag : ℕ) (values : List ℕ) (t : Tree) (branches : Trees) → (tree_kind t ≡ TermRole.Case → ⊥) → linked flag values t branches ≡ branches
+other_linked flag values (Case value body) branches never = absurd (never refl)
+other_linked flag values t branches never = refl
 
-pub form_unlinked : (flag : ℕ) (values : List ℕ) (at : At) (op : Op) (args body : Trees) (d : Option Trees) → (form_kind op args body ≡ TermRole.Case → ⊥) → d ≡ linked flag values (form at op args body) d
-form_unlinked flag values at op args body d never = sym (other_linked flag values (form at op args body) d (λ e. never (sym (kind_form at op args body) ∙ e)))
+pub form_unlinked : (flag : ℕ) (values : List ℕ) (at : At) (op : Op) (args body branches : Trees) → (form_kind op args body ≡ TermRole.Case → ⊥) → branches ≡ linked flag values (form at op args body) branches
+form_unlinked flag values at op args body branches never = sym (other_linked flag values (form at op args body) branches (λ e. never (sym (kind_form at op args body) ∙ e)))
 
--- the link of a Case
-pub case_linked : (flag : ℕ) (values : List ℕ) (at : At) (op : Op) (args body : List Node) (value : Node) (test made : Tree) (inner link : Trees) (f : Option Trees) → form_kind op (trees_of args) (trees_of body) ≡ TermRole.Case → args ≡ value ∷ []
-    → (HasCaseValue (node_tree value) → test ≡ case_test (local (nth values 0)) (node_tree value)) → (AreGiven (trees_of body) → inner ≡ looped_all flag (drop 1 values) true (trees_of body)) → made ≡ If test inner → link ≡ tree made (else_of f)
-    → IsGiven (form at op (trees_of args) (trees_of body)) → Some link ≡ linked flag values (form at op (trees_of args) (trees_of body)) f
-case_linked flag values at op args body value test made inner link f k e ht hi hm hl g =
+-- the branch of a Case
+pub case_linked : (flag : ℕ) (values : List ℕ) (at : At) (op : Op) (args body : List Node) (value : Node) (test : Tree) (inner branches : Trees) → form_kind op (trees_of args) (trees_of body) ≡ TermRole.Case → args ≡ value ∷ []
+    → (HasCaseValue (node_tree value) → test ≡ case_test (local (nth values 0)) (node_tree value)) → (AreGiven (trees_of body) → inner ≡ looped_all flag (drop 1 values) true (trees_of body))
+    → IsGiven (form at op (trees_of args) (trees_of body)) → tree (ElseIf test inner) branches ≡ linked flag values (form at op (trees_of args) (trees_of body)) branches
+case_linked flag values at op args body value test inner branches k e ht hi g =
     let is = case_form at op args body value (case_is op args body k).0 e in
     let given = subst IsGiven is g in
-    ap Some (hl ∙ ap (λ t. tree t (else_of f)) (hm ∙ ap (λ t. If t inner) (ht given.0) ∙ ap (If (case_test (local (nth values 0)) (node_tree value))) (hi given.1)))
-    ∙ ap (λ t. linked flag values t f) (sym is)
+    ap (λ t. tree (ElseIf t inner) branches) (ht given.0) ∙ ap (λ ts. tree (ElseIf (case_test (local (nth values 0)) (node_tree value)) ts) branches) (hi given.1)
+    ∙ ap (λ t. linked flag values t branches) (sym is)
 
 -- ---- the chain of a Switch
 
-abbrev pub link_all : ℕ → List ℕ → List Node → Option Trees → Option Trees
-link_all flag values [] d = d
-link_all flag values (node ∷ nodes) d = linked flag values (node_tree node) (link_all flag values nodes d)
+abbrev pub link_all : ℕ → List ℕ → List Node → Trees → Trees
+link_all flag values [] branches = branches
+link_all flag values (node ∷ nodes) branches = linked flag values (node_tree node) (link_all flag values nodes branches)
 
-link_last : (flag : ℕ) (values : List ℕ) (nodes : List Node) (node : Node) (d : Option Trees) → link_all flag values (nodes ++ node ∷ []) d ≡ link_all flag values nodes (linked flag values (node_tree node) d)
-link_last flag values [] node d = refl
-link_last flag values (n ∷ nodes) node d = ap (linked flag values (node_tree n)) (link_last flag values nodes node d)
+pub popped_first : (left more : List Node) (node : Node) → left ≡ more ++ node ∷ [] → reverse left ≡ node ∷ reverse more
+popped_first left more node e = ap reverse e ∙ reverse-append more (node ∷ [])
 
-pub link_next : (flag : ℕ) (values : List ℕ) (left more : List Node) (node : Node) (chain new whole : Option Trees) → left ≡ more ++ node ∷ [] → new ≡ linked flag values (node_tree node) chain → link_all flag values left chain ≡ whole → link_all flag values more new ≡ whole
-link_next flag values left more node chain new whole e f h = ap (link_all flag values more) f ∙ sym (link_last flag values more node chain) ∙ ap (λ ns. link_all flag values ns chain) (sym e) ∙ h
-
-pub link_end : (flag : ℕ) (values : List ℕ) (left : List Node) (d : Option Trees) → length left ≡ 0 → d ≡ link_all flag values left d
-link_end flag values [] d e = refl
-link_end flag values (node ∷ left) d e = absurd (omega (arith, e))
-
-links_step : (flag : ℕ) (values : List ℕ) (t : Tree) (ts : Trees) (d : Option Trees) → links (plan_as flag values) 1 (tree t ts) d ≡ linked flag values t (links (plan_as flag values) 1 ts d)
+links_step : (flag : ℕ) (values : List ℕ) (t : Tree) (ts d : Trees) → links (plan_as flag values) 1 (tree t ts) d ≡ linked flag values t (links (plan_as flag values) 1 ts d)
 links_step flag values (Case value body) ts d =
-    ap (λ b. Some (tree (If (case_test (local (nth values 0)) value) b) (else_of (links (plan_as flag values) 1 ts d)))) (same_terms (plan_as flag values) (plan_as flag (drop 1 values)) 2 1 (left_deeper flag values) true body)
+    ap (λ b. tree (ElseIf (case_test (local (nth values 0)) value) b) (links (plan_as flag values) 1 ts d)) (same_terms (plan_as flag values) (plan_as flag (drop 1 values)) 2 1 (left_deeper flag values) true body)
 links_step flag values t ts d = refl
 
-default_step : (flag : ℕ) (values : List ℕ) (body ts : Trees) → default_link (plan_as flag values) 1 (tree (Default body) ts) ≡ Some (looped_all flag (drop 1 values) true body)
-default_step flag values body ts = ap Some (same_terms (plan_as flag values) (plan_as flag (drop 1 values)) 2 1 (left_deeper flag values) true body)
+default_step : (flag : ℕ) (values : List ℕ) (body ts : Trees) → default_link (plan_as flag values) 1 (tree (Default body) ts) ≡ tree (Else (looped_all flag (drop 1 values) true body)) no_trees
+default_step flag values body ts = ap (λ ts. tree (Else ts) no_trees) (same_terms (plan_as flag values) (plan_as flag (drop 1 values)) 2 1 (left_deeper flag values) true body)
 
 no_default_step : (flag : ℕ) (values : List ℕ) (t : Tree) (ts : Trees) → is_default (tree_kind t) ≡ false → default_link (plan_as flag values) 1 (tree t ts) ≡ default_link (plan_as flag values) 1 ts
 no_default_step flag values (Default body) ts e = absurd cc
 no_default_step flag values t ts e = refl
 
-default_unlinked : (flag : ℕ) (values : List ℕ) (t : Tree) (d : Option Trees) → is_default (tree_kind t) ≡ true → linked flag values t d ≡ d
+default_unlinked : (flag : ℕ) (values : List ℕ) (t : Tree) (d : Trees) → is_default (tree_kind t) ≡ true → linked flag values t d ≡ d
 default_unlinked flag values (Case value body) d e = absurd cc
 default_unlinked flag values t d e = refl
 
 node_kind : (node : Node) → tree_kind (node_tree node) ≡ shape_kind (term_shape node.term)
 node_kind node = kind_is (record { id = node.id; place = node.place }) node.term
 
-links_are : (flag : ℕ) (values : List ℕ) (nodes : List Node) (d : Option Trees) → link_all flag values (filter (λ node. not (default_node node)) nodes) d ≡ links (plan_as flag values) 1 (trees_of nodes) d
+links_are : (flag : ℕ) (values : List ℕ) (nodes : List Node) (d : Trees) → link_all flag values (filter (λ node. not (default_node node)) nodes) d ≡ links (plan_as flag values) 1 (trees_of nodes) d
 unfolding trees_of
 links_are flag values [] d = refl
 links_are flag values (node ∷ nodes) d =
@@ -208,6 +201,22 @@ links_are flag values (node ∷ nodes) d =
         → link_all flag values (if not c then node ∷ filter (λ node. not (default_node node)) nodes else filter (λ node. not (default_node node)) nodes) d ≡ linked flag values (node_tree node) (links (plan_as flag values) 1 (trees_of nodes) d)
     by_default true e h = h ∙ sym (default_unlinked flag values (node_tree node) (links (plan_as flag values) 1 (trees_of nodes) d) (ap is_default (node_kind node) ∙ e))
     by_default false e h = ap (linked flag values (node_tree node)) h
+
+pub link_none : (flag : ℕ) (values : List ℕ) (nodes left tests : List Node) (branches : Trees) → reverse left ≡ filter (λ node. not (default_node node)) nodes → tests ≡ []
+    → behind (trees_of tests) (link_all flag values (reverse left) branches) ≡ opened (links (plan_as flag values) 1 (trees_of nodes) branches)
+link_none flag values nodes left tests branches e f =
+    ap (λ ns. behind (trees_of ns) (link_all flag values (reverse left) branches)) f ∙ ap (λ ts. behind ts (link_all flag values (reverse left) branches)) none
+    ∙ ap (λ ns. opened (link_all flag values ns branches)) e ∙ ap opened (links_are flag values nodes branches)
+
+pub link_next : (flag : ℕ) (values : List ℕ) (left more old new : List Node) (node : Node) (branches whole : Trees) → reverse left ≡ node ∷ reverse more
+    → ((branches : Trees) → behind (trees_of new) branches ≡ behind (trees_of old) (linked flag values (node_tree node) branches))
+    → behind (trees_of old) (link_all flag values (reverse left) branches) ≡ whole → behind (trees_of new) (link_all flag values (reverse more) branches) ≡ whole
+link_next flag values left more old new node branches whole e f h =
+    f (link_all flag values (reverse more) branches) ∙ ap (λ ns. behind (trees_of old) (link_all flag values ns branches)) (sym e) ∙ h
+
+pub link_end : (flag : ℕ) (values : List ℕ) (left tests : List Node) (branches whole : Trees) → length left ≡ 0 → behind (trees_of tests) (link_all flag values (reverse left) branches) ≡ whole → behind (trees_of tests) branches ≡ whole
+link_end flag values [] tests branches whole n e = e
+link_end flag values (node ∷ left) tests branches whole n e = absurd (omega (arith, n))
 
 part_unlike : (p : NameRole) → is_default (part_kind p) ≡ true → ⊥
 part_unlike (P.Declares n (W.Method flags) true) e = absurd cc
@@ -246,10 +255,9 @@ defaults_are flag values (node ∷ nodes) = by_default (default_node node) refl 
     by_default true e h = ap (λ t. default_link (plan_as flag values) 1 (tree t (trees_of nodes))) (default_is node e) ∙ default_step flag values (shape_body (term_shape node.term)) (trees_of nodes)
     by_default false e h = no_default_step flag values (node_tree node) (trees_of nodes) (ap is_default (node_kind node) ∙ e) ∙ h
 
-pub chain_is : (flag : ℕ) (values : List ℕ) (nodes : List Node) (cases : List Node) (default : Option Node) (d : Option Trees) → cases ≡ filter (λ node. not (default_node node)) nodes → default ≡ first_default nodes → d ≡ default_looped flag values default
-    → link_all flag values cases d ≡ links (plan_as flag values) 1 (trees_of nodes) (default_link (plan_as flag values) 1 (trees_of nodes))
-chain_is flag values nodes cases default d ec ed e =
-    ap (λ ns. link_all flag values ns d) ec ∙ links_are flag values nodes d ∙ ap (links (plan_as flag values) 1 (trees_of nodes)) (e ∙ ap (default_looped flag values) ed ∙ sym (defaults_are flag values nodes))
+-- the Default behind the tests
+pub default_is_last : (flag : ℕ) (values : List ℕ) (nodes : List Node) (default : Option Node) (d : Trees) → default ≡ first_default nodes → d ≡ default_looped flag values default → d ≡ default_link (plan_as flag values) 1 (trees_of nodes)
+default_is_last flag values nodes default d ed e = e ∙ ap (default_looped flag values) ed ∙ sym (defaults_are flag values nodes)
 
 -- ---- what is given
 
@@ -271,8 +279,11 @@ given_first (node ∷ nodes) g = by_default (default_node node) refl (given_firs
     by_default true e h = subst IsGiven (default_is node e) g.0
     by_default false e h = h
 
-pub cases_given : (nodes cases : List Node) → cases ≡ filter (λ node. not (default_node node)) nodes → AreGiven (trees_of nodes) → AreGiven (trees_of cases)
-cases_given nodes cases e g = subst (λ ns. AreGiven (trees_of ns)) (sym e) (given_cases nodes g)
+pub cases_given : (nodes left : List Node) → reverse left ≡ filter (λ node. not (default_node node)) nodes → AreGiven (trees_of nodes) → AreGiven (trees_of (reverse left))
+cases_given nodes left e g = subst (λ ns. AreGiven (trees_of ns)) (sym e) (given_cases nodes g)
+
+pub given_next : (left more : List Node) (node : Node) → reverse left ≡ node ∷ reverse more → AreGiven (trees_of (reverse left)) → IsGiven (node_tree node) × AreGiven (trees_of (reverse more))
+given_next left more node e g = subst AreGiven (ap trees_of e ∙ tree_cons node (reverse more)) g
 
 pub default_given : (nodes : List Node) (default : Option Node) → default ≡ first_default nodes → AreGiven (trees_of nodes) → given_default default
 default_given nodes default e g = subst given_default (sym e) (given_first nodes g)
@@ -292,7 +303,7 @@ flat_shape t e = refl
 pub flat_body : (flag : ℕ) (values : List ℕ) (t : Term) (made : List Node) → ((o : Op) (v w : Vec Node Global) → t ≡ D.Form o v w → ⊥) → made ≡ [] → trees_of made ≡ looped_all flag values true (shape_body (term_shape t))
 flat_body flag values t made never e = ap trees_of e ∙ none ∙ ap (looped_all flag values true) (sym (flat_shape t (not_formed t never)))
 
-pub flat_unlinked : (flag : ℕ) (values : List ℕ) (node : Node) (d : Option Trees) → ((o : Op) (v w : Vec Node Global) → node.term ≡ D.Form o v w → ⊥) → d ≡ linked flag values (node_tree node) d
+pub flat_unlinked : (flag : ℕ) (values : List ℕ) (node : Node) (d : Trees) → ((o : Op) (v w : Vec Node Global) → node.term ≡ D.Form o v w → ⊥) → d ≡ linked flag values (node_tree node) d
 flat_unlinked flag values node d never =
     sym (other_linked flag values (node_tree node) d (λ e. let k : TermRole.Other ≡ TermRole.Case = sym (flat_kind node.term (not_formed node.term never)) ∙ sym (node_kind node) ∙ e in absurd cc))
 

@@ -1,5 +1,5 @@
 -- The sizes of what stands in a Switch.
-use Rattle.std.proofs.Common.{◌≡◌, ◌≤◌, ◌+◌, ℕ, suc, Bool, true, false, List, [], ◌∷◌, Option, Some, None, sym, subst, arith}
+use Rattle.std.proofs.Common.{◌≡◌, ◌≤◌, ◌+◌, ℕ, suc, Bool, true, false, List, [], ◌∷◌, Option, Some, None, reverse, sym, ap, subst, arith}
 use Rattle.std.specs.Prelude.{not, if◌then◌else◌, filter}
 use Rattle.asl_tree.specs.declared.term.Node.{Node}
 use Rattle.acpi_names.specs.Parts.{nodes_size, term_size}
@@ -31,5 +31,9 @@ first_size (node ∷ nodes) = by_default (default_node node) (first_size nodes)
 pub default_fits : (nodes : List Node) (default : Option Node) → default ≡ first_default nodes → default_size default ≤ nodes_size nodes
 default_fits nodes default e = subst (λ o. default_size o ≤ nodes_size nodes) (sym e) (first_size nodes)
 
-pub cases_fit : (nodes cases : List Node) → cases ≡ filter (λ node. not (default_node node)) nodes → nodes_size cases ≤ nodes_size nodes
-cases_fit nodes cases e = subst (λ ns. nodes_size ns ≤ nodes_size nodes) (sym e) (cases_size nodes)
+pub cases_fit : (nodes left : List Node) → reverse left ≡ filter (λ node. not (default_node node)) nodes → nodes_size (reverse left) ≤ nodes_size nodes
+cases_fit nodes left e = subst (λ ns. nodes_size ns ≤ nodes_size nodes) (sym e) (cases_size nodes)
+
+pub next_size : (left more : List Node) (node : Node) → reverse left ≡ node ∷ reverse more → nodes_size (reverse left) ≡ suc (term_size node.term + nodes_size (reverse more))
+unfolding nodes_size
+next_size left more node e = ap nodes_size e

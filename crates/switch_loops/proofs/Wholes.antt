@@ -5,7 +5,7 @@ use Rattle.asl_tree.specs.declared.term.Control.TheVariants as Control
 use Rattle.asl_tree.specs.declared.term.Declaration.TheVariants as Declaration
 use Rattle.asl_tree.specs.Tree.{At, Integer, Use, Trees, no_trees, tree}
 use Rattle.asl_tree.specs.View.{form}
-use Rattle.asl_lower.specs.Places.{has_terms}
+use Rattle.term_places.specs.Places.{holds_terms}
 use Rattle.hidden_locals.specs.Locals.{locals_all}
 use Rattle.hidden_locals.specs.Turns.{nth, others}
 use Rattle.hidden_locals.specs.Switches.{depth_all, plan_of, without_switches}
@@ -26,7 +26,7 @@ whole_looped flag levels values named body en ev el ef =
 
 -- ---- forms that stay
 
-pub kept_one : (flag : ℕ) (values : List ℕ) (inside : Bool) (at : At) (op : Op) (args body made : Trees) → IsGiven (form at op args body) → ((has_terms op ≡ true → AreGiven body) → made ≡ in_braces flag values inside op body)
+pub kept_one : (flag : ℕ) (values : List ℕ) (inside : Bool) (at : At) (op : Op) (args body made : Trees) → IsGiven (form at op args body) → ((holds_terms op ≡ true → AreGiven body) → made ≡ in_braces flag values inside op body)
     → form at op args made ≡ form at op args (in_braces flag values inside op body)
 kept_one flag values inside at (Op.Control Control.If) (tree test no_trees) body made g h = ap (form at (Op.Control Control.If) (tree test no_trees)) (h (λ e. g))
 kept_one flag values inside at (Op.Control Control.If) args body made g h = refl

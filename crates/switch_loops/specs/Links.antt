@@ -4,17 +4,17 @@ use Rattle.asl_tree.specs.declared.term.Control.TheVariants as Control
 use Rattle.asl_tree.specs.declared.term.Declaration.TheVariants as Declaration
 use Rattle.asl_tree.specs.declared.term.Op.{Op}
 use Rattle.asl_tree.specs.declared.term.Node.{Node}
-use Rattle.asl_tree.specs.Tree.{Tree, If, Switch, Case, Continue, Trees, no_trees, tree}
+use Rattle.asl_tree.specs.Tree.{Tree, ElseIf, Else, Switch, Case, Continue, Trees, no_trees, tree}
 use Rattle.asl_tree.specs.View.{trees_of}
-use Rattle.asl_lower.specs.Places.{lowered_places}
+use Rattle.term_places.specs.Places.{places_of}
 use Rattle.acpi_names.specs.Walked.{TermShape, OfForm, term_shape}
 use Rattle.hidden_locals.specs.Crossing.{have_continue}
-use Rattle.hidden_locals.specs.Turns.{Plan, local, nth, else_of, loop_of, loop_terms, continue_terms}
-use Rattle.hidden_locals.specs.Switches.{case_test, chain_of, unswitched, unswitched_all, links, default_link, without_switches}
+use Rattle.hidden_locals.specs.Turns.{Plan, local, nth, then_trees, loop_of, loop_terms, continue_terms}
+use Rattle.hidden_locals.specs.Switches.{case_test, opened, unswitched, unswitched_all, links, default_link, without_switches}
 use Rattle.switch_loops.specs.Given.{AreGiven}
 use Rattle.switch_loops.specs.Kinds.{default_node}
-use Rattle.switch_loops.specs.Places.{Following}
-use Rattle.switch_loops.specs.declared.made.Link.{Link}
+use Rattle.switch_loops.specs.Places.{DefaultPlaces}
+use Rattle.switch_loops.specs.declared.made.Otherwise.{Otherwise}
 
 -- a plan by its flag and the Locals that are left at some level: the level behind the flag
 abbrev pub plan_as : ℕ → List ℕ → Plan
@@ -30,16 +30,21 @@ looped_all flag values inside terms = unswitched_all (plan_as flag values) 1 ins
 abbrev pub put : ℕ → List ℕ → Bool → Tree → Trees → Trees
 put flag values inside (Switch value cases) rest =
     loop_terms (plan_as flag values) (have_continue cases) inside
-    (loop_of value (local (nth values 0)) (chain_of (links (plan_as flag values) 1 cases (default_link (plan_as flag values) 1 cases))))
+    (loop_of value (local (nth values 0)) (opened (links (plan_as flag values) 1 cases (default_link (plan_as flag values) 1 cases))))
     rest
 put flag values inside Continue rest = continue_terms (plan_as flag values) inside rest
 put flag values inside term rest = tree (looped flag values inside term) rest
 
--- what stands for a Case before those behind it
-abbrev pub linked : ℕ → List ℕ → Tree → Option Trees → Option Trees
-linked flag values (Case value body) behind =
-    Some (tree (If (case_test (local (nth values 0)) value) (looped_all flag (drop 1 values) true body)) (else_of behind))
-linked flag values term behind = behind
+-- what stands for a Case before the branches behind it
+abbrev pub linked : ℕ → List ℕ → Tree → Trees → Trees
+linked flag values (Case value body) branches =
+    tree (ElseIf (case_test (local (nth values 0)) value) (looped_all flag (drop 1 values) true body)) branches
+linked flag values term branches = branches
+
+-- branches behind the tests before them; where there is none, the first ElseIf is the If
+abbrev pub behind : Trees → Trees → Trees
+behind no_trees branches = opened branches
+behind (tree test tests) branches = then_trees (tree test tests) branches
 
 -- what stands in the braces of a form that stays
 abbrev pub in_braces : ℕ → List ℕ → Bool → Op → Trees → Trees
@@ -55,14 +60,14 @@ in_braces flag values inside (Op.Control Control.Else) body = looped_all flag va
 in_braces flag values inside (Op.Control Control.While) body = looped_all flag values false body
 in_braces flag values inside op body = body
 
--- the trees and the places of a link
-abbrev pub link_trees : Option Link → Option Trees
-link_trees None = None
-link_trees (Some link) = Some (trees_of link.terms.items)
+-- a Default as an Else, and its places
+abbrev pub otherwise_trees : Option Otherwise → Trees
+otherwise_trees None = no_trees
+otherwise_trees (Some otherwise) = tree (Else (trees_of otherwise.terms.items)) no_trees
 
-abbrev pub link_places : Option Link → Following
-link_places None = None
-link_places (Some link) = Some (link.origin.place, lowered_places link.terms.items)
+abbrev pub otherwise_places : Option Otherwise → DefaultPlaces
+otherwise_places None = None
+otherwise_places (Some otherwise) = Some (otherwise.origin.place, places_of otherwise.terms.items)
 
 -- the first Default among some nodes
 abbrev pub first_default : List Node → Option Node
@@ -78,7 +83,7 @@ abbrev pub given_default : Option Node → Type 0
 given_default None = Unit {0}
 given_default (Some node) = AreGiven (shape_body (term_shape node.term))
 
--- what a Default does
-abbrev pub default_looped : ℕ → List ℕ → Option Node → Option Trees
-default_looped flag values None = None
-default_looped flag values (Some node) = Some (looped_all flag (drop 1 values) true (shape_body (term_shape node.term)))
+-- what a Default does, as an Else
+abbrev pub default_looped : ℕ → List ℕ → Option Node → Trees
+default_looped flag values None = no_trees
+default_looped flag values (Some node) = tree (Else (looped_all flag (drop 1 values) true (shape_body (term_shape node.term)))) no_trees

@@ -3,19 +3,19 @@ ghost use Rattle.std.specs.Prelude.{◌≡◌, ◌++◌, ◌∷◌, ◌<◌, [],
 ghost use Rattle.acpi_names.specs.Parts.{nodes_size, term_size};
 ghost use Rattle.acpi_names.specs.Walked.{node_tree, term_shape};
 ghost use Rattle.asl_lower.specs.Nests.{backwards};
-ghost use Rattle.asl_lower.specs.Places.{has_terms, lowered_at, lowered_places};
+ghost use Rattle.term_places.specs.Places.{holds_terms, places_of, term_places};
 ghost use Rattle.asl_tree.specs.Tree.{Switch, Trees, tree};
 ghost use Rattle.asl_tree.specs.View.{form, trees_of};
 ghost use Rattle.hidden_locals.specs.Locals.{locals_all};
-ghost use Rattle.hidden_locals.specs.Switches.{default_link, links, without_switches};
+ghost use Rattle.hidden_locals.specs.Switches.{default_link, links, opened, without_switches};
 ghost use Rattle.switch_loops.specs.Given.{AreGiven, IsGiven, HasValue};
 ghost use Rattle.switch_loops.specs.Kept.{all_kept, is_kept};
 ghost use Rattle.switch_loops.specs.Kinds.{form_kind as form_kind_of, shape_kind};
-ghost use Rattle.switch_loops.specs.Links.{given_default, in_braces as trees_in_braces, link_places, link_trees, linked, looped_all};
-ghost use Rattle.switch_loops.specs.Links.{plan_as, put as put_tree, default_looped, shape_body};
+ghost use Rattle.switch_loops.specs.Links.{behind, given_default, in_braces as trees_in_braces, linked, looped_all};
+ghost use Rattle.switch_loops.specs.Links.{otherwise_places, otherwise_trees, plan_as, put as put_tree, default_looped, shape_body};
 ghost use Rattle.switch_loops.specs.Reads.{marked_all, none_named, others_of};
-ghost use Rattle.switch_loops.specs.Places.{body_inside, cases_places, case_places, braces as braces_places, default_node_places};
-ghost use Rattle.switch_loops.specs.Places.{first_default_places, looped_at, looped_places, switch_looped};
+ghost use Rattle.switch_loops.specs.Places.{body_inside, cases_places, case_places, chain_places, braces as braces_places};
+ghost use Rattle.switch_loops.specs.Places.{default_node_places, first_default_places, looped_at, looped_places, switch_looped};
 ghost use Rattle.switch_loops.specs.declared.kind.TermRole.TheVariants as K;
 
 use crate::braces::{Braces, braces_of, stays_inside};
@@ -23,7 +23,9 @@ use crate::found::{Found, found_in};
 use crate::kept::all_keep;
 use crate::kind::{TermRole, form_kind, kind_of};
 use crate::locals::named_in;
-use crate::made::{Link, Origin, case_test, choice, put_continue, put_turn, turn, when};
+use crate::made::{
+    Origin, Otherwise, case_test, put_continue, put_test, put_turn, turn, with_default,
+};
 use crate::measure::measure_all;
 use crate::spare::{later, local_at};
 use crate::split::split_cases;
@@ -70,7 +72,7 @@ fn parts(alloc: Global, node: Node) -> (Node, Vec<Node>)
 /// terms do not name; each method has its own.
 pub fn loops(alloc: Global, terms: Vec<Node>) -> Result<Vec<Node>, AllocError>
     ensures trees { IfOk result (λ made. AreGiven (trees_of terms.items) → trees_of made.items ≡ without_switches (trees_of terms.items)) }
-    ensures places { IfOk result (λ made. lowered_places made.items ≡ looped_places false terms.items) }
+    ensures places { IfOk result (λ made. places_of made.items ≡ looped_places false terms.items) }
 {
     let mut made = terms;
     loops_of(alloc, &mut made)?;
@@ -82,7 +84,7 @@ pub fn loops(alloc: Global, terms: Vec<Node>) -> Result<Vec<Node>, AllocError>
 fn loops_of(alloc: Global, terms: &mut Vec<Node>) -> Result<(), AllocError>
     ensures trees { OnOk result (AreGiven (trees_of terms.old.items) →
         trees_of terms.new.items ≡ without_switches (trees_of terms.old.items)) }
-    ensures places { OnOk result (lowered_places terms.new.items ≡ looped_places false terms.old.items) }
+    ensures places { OnOk result (places_of terms.new.items ≡ looped_places false terms.old.items) }
 {
     match found_in(terms) {
         Found::Nothing => Ok(()),
@@ -112,7 +114,7 @@ fn loops_in(
 ) -> Result<(), AllocError>
     ensures trees { OnOk result (AreGiven (trees_of terms.old.items) →
         trees_of terms.new.items ≡ looped_all flag values.now inside (trees_of terms.old.items)) }
-    ensures places { OnOk result (lowered_places terms.new.items ≡ looped_places inside terms.old.items) }
+    ensures places { OnOk result (places_of terms.new.items ≡ looped_places inside terms.old.items) }
 {
     if all_keep(inside, terms) {
         loops_within(alloc, flag, values, inside, terms)?;
@@ -136,7 +138,7 @@ fn loops_within(
     requires { all_kept inside terms.old.items ≡ true }
     ensures trees { OnOk result (AreGiven (trees_of terms.old.items) →
         trees_of terms.new.items ≡ looped_all flag values.now inside (trees_of terms.old.items)) }
-    ensures places { OnOk result (lowered_places terms.new.items ≡ looped_places inside terms.old.items) }
+    ensures places { OnOk result (places_of terms.new.items ≡ looped_places inside terms.old.items) }
 {
     for node in terms.iter_mut() {
         loops_at(alloc, flag, values, inside, node)?;
@@ -156,7 +158,7 @@ fn loops_at(
     requires { is_kept inside (shape_kind (term_shape node.old.term)) ≡ true }
     ensures tree { OnOk result (IsGiven (node_tree node.old) → (rest : Trees) →
         tree (node_tree node.new) rest ≡ put_tree flag values.now inside (node_tree node.old) rest) }
-    ensures places { OnOk result (lowered_at node.new.place node.new.term ≡ looped_at inside node.old.place node.old.term) }
+    ensures places { OnOk result (term_places node.new ≡ looped_at inside node.old.place node.old.term) }
 {
     match &mut node.term {
         Term::Form {
@@ -181,10 +183,10 @@ fn in_braces(
     op: Op,
     body: &mut Vec<Node>,
 ) -> Result<(), AllocError>
-    ensures trees { OnOk result ((has_terms op ≡ true → AreGiven (trees_of body.old.items)) →
+    ensures trees { OnOk result ((holds_terms op ≡ true → AreGiven (trees_of body.old.items)) →
         trees_of body.new.items ≡ trees_in_braces flag values.now inside op (trees_of body.old.items)) }
-    ensures places { OnOk result (has_terms op ≡ true →
-        lowered_places body.new.items ≡ looped_places (body_inside op inside) body.old.items) }
+    ensures places { OnOk result (holds_terms op ≡ true →
+        places_of body.new.items ≡ looped_places (body_inside op inside) body.old.items) }
 {
     match braces_of(op) {
         Braces::Terms => {
@@ -210,7 +212,7 @@ fn loops_for(
 ) -> Result<Vec<Node>, AllocError>
     ensures trees { IfOk result (λ made. AreGiven (trees_of terms.items) → trees_of made.items ≡ looped_all flag values.now inside
         (trees_of terms.items)) }
-    ensures places { IfOk result (λ made. lowered_places made.items ≡ looped_places inside terms.items) }
+    ensures places { IfOk result (λ made. places_of made.items ≡ looped_places inside terms.items) }
 {
     let mut left = terms;
     let mut made = Vec::with_capacity(alloc, left.len())?;
@@ -233,8 +235,8 @@ fn put(
 ) -> Result<(), AllocError>
     ensures trees { OnOk result (IsGiven (node_tree node) → backwards made.new.items ≡ put_tree flag values.now inside (node_tree node)
         (backwards made.old.items)) }
-    ensures places { OnOk result (lowered_places (reverse made.new.items) ≡ looped_at inside node.place node.term
-        ++ lowered_places (reverse made.old.items)) }
+    ensures places { OnOk result (places_of (reverse made.new.items) ≡ looped_at inside node.place node.term
+        ++ places_of (reverse made.old.items)) }
 {
     let origin = Origin {
         id: node.id,
@@ -275,8 +277,8 @@ fn put_switch(
     ensures trees { OnOk result (HasValue (node_tree value) → AreGiven (trees_of cases.items) →
         backwards made.new.items ≡ put_tree flag values.now inside (Switch (node_tree value) (trees_of cases.items))
         (backwards made.old.items)) }
-    ensures places { OnOk result (lowered_places (reverse made.new.items) ≡ switch_looped inside origin.place cases.items
-        ++ lowered_places (reverse made.old.items)) }
+    ensures places { OnOk result (places_of (reverse made.new.items) ≡ switch_looped inside origin.place cases.items
+        ++ places_of (reverse made.old.items)) }
 {
     let crossed = measure_all(&cases).continues;
     let chain = chain(alloc, flag, values, cases)?;
@@ -285,24 +287,22 @@ fn put_switch(
     Ok(())
 }
 
-// The tests of the Cases of a Switch, each in the Else of the one before it, and last the Default.
+// The tests of the Cases of a Switch, one behind another, and last the Default.
 #[cycle(loops)]
-fn chain(
-    alloc: Global,
-    flag: u8,
-    values: &[u8],
-    nodes: Vec<Node>,
-) -> Result<Option<Link>, AllocError>
-    ensures trees { IfOk result (λ chain. AreGiven (trees_of nodes.items) → link_trees chain ≡ links (plan_as flag values.now) 1
-        (trees_of nodes.items) (default_link (plan_as flag values.now) 1 (trees_of nodes.items))) }
-    ensures places { IfOk result (λ chain. link_places chain ≡ cases_places nodes.items (first_default_places nodes.items)) }
+fn chain(alloc: Global, flag: u8, values: &[u8], nodes: Vec<Node>) -> Result<Vec<Node>, AllocError>
+    ensures trees { IfOk result (λ chain. AreGiven (trees_of nodes.items) → trees_of chain.items ≡ opened (links
+        (plan_as flag values.now) 1 (trees_of nodes.items) (default_link (plan_as flag values.now) 1 (trees_of nodes.items)))) }
+    ensures places { IfOk result (λ chain. places_of chain.items
+        ≡ chain_places (cases_places nodes.items) (first_default_places nodes.items)) }
 {
     let split = split_cases(alloc, nodes)?;
-    let mut chain = default_of(alloc, flag, values, split.default)?;
+    let default = default_of(alloc, flag, values, split.default)?;
     let mut left = split.cases;
+    let mut tests = Vec::with_capacity(alloc, left.len())?;
     while let Some(node) = left.pop() {
-        chain = case_before(alloc, flag, values, node, chain)?;
+        put_case(alloc, flag, values, &mut tests, node)?;
     }
+    let chain = with_default(alloc, tests, default)?;
     Ok(chain)
 }
 
@@ -313,14 +313,14 @@ fn default_of(
     flag: u8,
     values: &[u8],
     default: Option<Node>,
-) -> Result<Option<Link>, AllocError>
-    ensures trees { IfOk result (λ link. given_default default → link_trees link ≡ default_looped flag values.now default) }
-    ensures places { IfOk result (λ link. link_places link ≡ default_node_places default) }
+) -> Result<Option<Otherwise>, AllocError>
+    ensures trees { IfOk result (λ otherwise. given_default default → otherwise_trees otherwise ≡ default_looped flag values.now default) }
+    ensures places { IfOk result (λ otherwise. otherwise_places otherwise ≡ default_node_places default) }
 {
     match default {
         Some(Node { id, place, term }) => {
             let terms = terms_of(alloc, flag, values, term)?;
-            Ok(Some(Link {
+            Ok(Some(Otherwise {
                 origin: Origin { id, place },
                 terms,
             }))
@@ -334,7 +334,7 @@ fn default_of(
 fn terms_of(alloc: Global, flag: u8, values: &[u8], term: Term) -> Result<Vec<Node>, AllocError>
     ensures trees { IfOk result (λ made. AreGiven (shape_body (term_shape term)) → trees_of made.items ≡ looped_all flag (drop 1 values.now)
         true (shape_body (term_shape term))) }
-    ensures places { IfOk result (λ made. lowered_places made.items ≡ braces_places term) }
+    ensures places { IfOk result (λ made. places_of made.items ≡ braces_places term) }
 {
     match term {
         Term::Form {
@@ -350,58 +350,57 @@ fn terms_of(alloc: Global, flag: u8, values: &[u8], term: Term) -> Result<Vec<No
     }
 }
 
-// A Case before what follows it. What is no Case is nothing.
+// Puts the test of a Case behind those before it. What is no Case is nothing.
 #[cycle(loops)]
-fn case_before(
+fn put_case(
     alloc: Global,
     flag: u8,
     values: &[u8],
+    tests: &mut Vec<Node>,
     node: Node,
-    following: Option<Link>,
-) -> Result<Option<Link>, AllocError>
-    ensures trees { IfOk result (λ link. IsGiven (node_tree node) → link_trees link ≡ linked flag values.now (node_tree node)
-        (link_trees following)) }
-    ensures places { IfOk result (λ link. link_places link ≡ case_places (shape_kind (term_shape node.term)) node.place
-        (braces_places node.term) (link_places following)) }
+) -> Result<(), AllocError>
+    ensures trees { OnOk result (IsGiven (node_tree node) → (branches : Trees) → behind (trees_of tests.new.items) branches
+        ≡ behind (trees_of tests.old.items) (linked flag values.now (node_tree node) branches)) }
+    ensures places { OnOk result (places_of tests.new.items ≡ places_of tests.old.items
+        ++ case_places (shape_kind (term_shape node.term)) node.place (braces_places node.term)) }
 {
     let Node { id, place, term } = node;
     match term {
         Term::Form { op, args, body } => {
             let origin = Origin { id, place };
-            let link = form_before(alloc, flag, values, origin, op, args, body, following)?;
-            Ok(link)
+            put_form(alloc, flag, values, tests, origin, op, args, body)?;
+            Ok(())
         }
-        _ => Ok(following),
+        _ => Ok(()),
     }
 }
 
 #[cycle(loops)]
-fn form_before(
+fn put_form(
     alloc: Global,
     flag: u8,
     values: &[u8],
+    tests: &mut Vec<Node>,
     origin: Origin,
     op: Op,
     args: Vec<Node>,
     body: Vec<Node>,
-    following: Option<Link>,
-) -> Result<Option<Link>, AllocError>
-    ensures trees { IfOk result
-        (λ link. IsGiven (form (record { id = origin.id; place = origin.place }) op (trees_of args.items) (trees_of body.items)) →
-        link_trees link ≡ linked flag values.now
-        (form (record { id = origin.id; place = origin.place }) op (trees_of args.items) (trees_of body.items)) (link_trees following)) }
-    ensures places { IfOk result (λ link. link_places link ≡ case_places (form_kind_of op (trees_of args.items) (trees_of body.items))
-        origin.place (looped_places true body.items) (link_places following)) }
+) -> Result<(), AllocError>
+    ensures trees { OnOk result
+        (IsGiven (form (record { id = origin.id; place = origin.place }) op (trees_of args.items) (trees_of body.items)) →
+        (branches : Trees) → behind (trees_of tests.new.items) branches ≡ behind (trees_of tests.old.items) (linked flag values.now
+        (form (record { id = origin.id; place = origin.place }) op (trees_of args.items) (trees_of body.items)) branches)) }
+    ensures places { OnOk result (places_of tests.new.items ≡ places_of tests.old.items
+        ++ case_places (form_kind_of op (trees_of args.items) (trees_of body.items)) origin.place (looped_places true body.items)) }
 {
     match form_kind(op, &args, &body) {
         TermRole::Case => {
             let test = case_test(alloc, origin, local_at(values, 0), only(args))?;
             let mut made = body;
             loops_in(alloc, flag, later(values), true, &mut made)?;
-            let test = when(alloc, origin, test, made)?;
-            let terms = choice(alloc, test, following)?;
-            Ok(Some(Link { origin, terms }))
+            put_test(alloc, origin, tests, test, made)?;
+            Ok(())
         }
-        _ => Ok(following),
+        _ => Ok(()),
     }
 }

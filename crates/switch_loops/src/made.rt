@@ -4,16 +4,16 @@ ghost use Rattle.acpi_names.specs.Walked.{node_tree};
 ghost use Rattle.acpi_values.specs.declared.operator.IntOp.TheVariants as IntOp;
 ghost use Rattle.acpi_values.specs.declared.operator.Plain.TheVariants as P;
 ghost use Rattle.asl_tree.specs.declared.term.Op.TheVariants as O;
-ghost use Rattle.asl_tree.specs.Tree.{Apply, If, Constant, no_trees, tree};
+ghost use Rattle.asl_tree.specs.Tree.{Apply, If, ElseIf, Constant, Trees, no_trees, tree};
 ghost use Rattle.asl_tree.specs.View.{apply_of, form, trees_of};
 ghost use Rattle.asl_lower.specs.Nests.{backwards};
-ghost use Rattle.asl_lower.specs.Places.{form_places, lowered_at, lowered_places};
-ghost use Rattle.hidden_locals.specs.Switches.{case_test as tree_test, chain_of};
-ghost use Rattle.hidden_locals.specs.Turns.{equal as equal_tree, local as local_tree, stored, test_of, else_of, loop_of, loop_terms};
+ghost use Rattle.term_places.specs.Places.{places_of, term_places};
+ghost use Rattle.hidden_locals.specs.Switches.{case_test as tree_test};
+ghost use Rattle.hidden_locals.specs.Turns.{equal as equal_tree, local as local_tree, stored, test_of, loop_of, loop_terms};
 ghost use Rattle.hidden_locals.specs.Turns.{continue_terms};
 ghost use Rattle.switch_loops.specs.Given.{HasValue, HaveValues, HasCaseValue};
-ghost use Rattle.switch_loops.specs.Links.{link_trees, link_places, plan_as};
-ghost use Rattle.switch_loops.specs.Places.{chain_places, continue_places, else_places, loop_places, turn_places};
+ghost use Rattle.switch_loops.specs.Links.{behind, otherwise_trees, otherwise_places, plan_as};
+ghost use Rattle.switch_loops.specs.Places.{chain_places, continue_places, loop_places, own_places, turn_places};
 
 use acpi_names::part::{ValueForm, value_form_for};
 use acpi_values::operator::{DataOp, IntOp, Plain};
@@ -28,9 +28,9 @@ pub(crate) struct Origin {
     pub place: Place,
 }
 
-/// What follows the test of a Case: the next Case, or the Default.
+/// What a Default does.
 #[derive(Drop)]
-pub(crate) struct Link {
+pub(crate) struct Otherwise {
     pub origin: Origin,
     pub terms: Vec<Node>,
 }
@@ -55,12 +55,11 @@ fn one(alloc: Global, node: Node) -> Result<Vec<Node>, AllocError>
 }
 
 // A statement with terms in its braces.
-#[tactic(auto, using(acpi_names::proofs::Trees::form_tree, asl_lower::proofs::Places::form_lowered))]
+#[tactic(auto, using(acpi_names::proofs::Trees::form_tree))]
 fn control(origin: Origin, op: Control, args: Vec<Node>, body: Vec<Node>) -> Node
     ensures tree { node_tree result ≡ form (record { id = origin.id; place = origin.place }) (O.Control op) (trees_of args.items)
         (trees_of body.items) }
-    ensures places { lowered_at result.place result.term ≡ form_places (O.Control op) (trees_of args.items) origin.place
-        (lowered_places body.items) }
+    ensures places { term_places result ≡ own_places (O.Control op) origin.place (places_of body.items) }
 {
     Node {
         id: origin.id,
@@ -74,10 +73,9 @@ fn control(origin: Origin, op: Control, args: Vec<Node>, body: Vec<Node>) -> Nod
 }
 
 // Break, or Continue.
-#[tactic(auto, using(crate::proofs::MadeRows::bare_made, crate::proofs::MadeRows::bare_placed))]
 fn leaving(alloc: Global, origin: Origin, op: Control) -> Node
     ensures tree { node_tree result ≡ form (record { id = origin.id; place = origin.place }) (O.Control op) no_trees no_trees }
-    ensures places { lowered_at result.place result.term ≡ origin.place ∷ [] }
+    ensures places { term_places result ≡ origin.place ∷ [] }
 {
     control(origin, op, Vec::new(alloc), Vec::new(alloc))
 }
@@ -99,7 +97,7 @@ fn word(alloc: Global, origin: Origin, literal: Literal) -> Node
 }
 
 // An operator on two operands.
-#[tactic(auto, using(crate::proofs::MadeRows::operator_made, crate::proofs::MadeRows::operator_placed))]
+#[tactic(auto, using(crate::proofs::MadeRows::operator_made))]
 fn operator(
     alloc: Global,
     origin: Origin,
@@ -108,7 +106,7 @@ fn operator(
     second: Node,
 ) -> Result<Node, AllocError>
     ensures tree { IfOk result (λ made. node_tree made ≡ apply_of op (tree (node_tree first) (tree (node_tree second) no_trees))) }
-    ensures places { IfOk result (λ made. lowered_at made.place made.term ≡ origin.place ∷ []) }
+    ensures places { IfOk result (λ made. term_places made ≡ origin.place ∷ []) }
 {
     let mut args = Vec::with_capacity(alloc, 2)?;
     args.push(first)?;
@@ -128,7 +126,7 @@ fn operator(
 #[tactic(auto, using(crate::proofs::MadeRows::store_made))]
 fn store(alloc: Global, origin: Origin, value: Node, index: u8) -> Result<Node, AllocError>
     ensures tree { IfOk result (λ made. HasValue (node_tree value) → node_tree made ≡ stored (node_tree value) (local_tree index)) }
-    ensures places { IfOk result (λ made. lowered_at made.place made.term ≡ origin.place ∷ []) }
+    ensures places { IfOk result (λ made. term_places made ≡ origin.place ∷ []) }
 {
     let made = operator(
         alloc,
@@ -143,7 +141,7 @@ fn store(alloc: Global, origin: Origin, value: Node, index: u8) -> Result<Node, 
 // Store of a word into the flag.
 fn set(alloc: Global, origin: Origin, flag: u8, literal: Literal) -> Result<Node, AllocError>
     ensures tree { IfOk result (λ made. node_tree made ≡ stored (Constant literal) (local_tree flag)) }
-    ensures places { IfOk result (λ made. lowered_at made.place made.term ≡ origin.place ∷ []) }
+    ensures places { IfOk result (λ made. term_places made ≡ origin.place ∷ []) }
 {
     let made = store(alloc, origin, word(alloc, origin, literal), flag)?;
     Ok(made)
@@ -234,39 +232,52 @@ pub(crate) fn when(
     body: Vec<Node>,
 ) -> Result<Node, AllocError>
     ensures tree { IfOk result (λ made. node_tree made ≡ If (node_tree test) (trees_of body.items)) }
-    ensures places { IfOk result (λ made. lowered_at made.place made.term ≡ origin.place ∷ lowered_places body.items) }
+    ensures places { IfOk result (λ made. term_places made ≡ origin.place ∷ places_of body.items) }
 {
     let args = one(alloc, test)?;
     Ok(control(origin, Control::If, args, body))
 }
 
-/// The If that tests a Case, and the Else with what follows.
-pub(crate) fn choice(
+/// Puts the test of a Case behind those before it: the first one is an If, each other an ElseIf.
+pub(crate) fn put_test(
     alloc: Global,
+    origin: Origin,
+    tests: &mut Vec<Node>,
     test: Node,
-    following: Option<Link>,
-) -> Result<Vec<Node>, AllocError>
-    ensures trees { IfOk result (λ made. trees_of made.items ≡ tree (node_tree test) (else_of (link_trees following))) }
-    ensures places { IfOk result (λ made. lowered_places made.items ≡ lowered_at test.place test.term
-        ++ else_places (link_places following)) }
+    body: Vec<Node>,
+) -> Result<(), AllocError>
+    ensures trees { OnOk result ((branches : Trees) → behind (trees_of tests.new.items) branches
+        ≡ behind (trees_of tests.old.items) (tree (ElseIf (node_tree test) (trees_of body.items)) branches)) }
+    ensures places { OnOk result (places_of tests.new.items ≡ places_of tests.old.items ++ origin.place ∷ places_of body.items) }
 {
-    let mut made = one(alloc, test)?;
-    match following {
-        Some(link) => {
-            made.push(control(link.origin, Control::Else, Vec::new(alloc), link.terms))?;
-            Ok(made)
-        }
-        None => Ok(made),
+    let args = one(alloc, test)?;
+    if tests.is_empty() {
+        tests.push(control(origin, Control::If, args, body))?;
+        return Ok(());
     }
+    tests.push(control(origin, Control::ElseIf, args, body))?;
+    Ok(())
 }
 
-fn link_terms(alloc: Global, chain: Option<Link>) -> Vec<Node>
-    ensures trees { trees_of result.items ≡ chain_of (link_trees chain) }
-    ensures places { lowered_places result.items ≡ chain_places (link_places chain) }
+/// The tests of Cases, and behind them the Else of a Default; with no test before it, what the Default does.
+pub(crate) fn with_default(
+    alloc: Global,
+    tests: Vec<Node>,
+    default: Option<Otherwise>,
+) -> Result<Vec<Node>, AllocError>
+    ensures trees { IfOk result (λ made. trees_of made.items ≡ behind (trees_of tests.items) (otherwise_trees default)) }
+    ensures places { IfOk result (λ made. places_of made.items ≡ chain_places (places_of tests.items) (otherwise_places default)) }
 {
-    match chain {
-        Some(link) => link.terms,
-        None => Vec::new(alloc),
+    match default {
+        Some(Otherwise { origin, terms }) => {
+            if tests.is_empty() {
+                return Ok(terms);
+            }
+            let mut made = tests;
+            made.push(control(origin, Control::Else, Vec::new(alloc), terms))?;
+            Ok(made)
+        }
+        None => Ok(tests),
     }
 }
 
@@ -276,13 +287,13 @@ pub(crate) fn turn(
     origin: Origin,
     index: u8,
     value: Node,
-    chain: Option<Link>,
+    chain: Vec<Node>,
 ) -> Result<Node, AllocError>
     ensures tree { IfOk result (λ made. HasValue (node_tree value) → node_tree made ≡ loop_of (node_tree value) (local_tree index)
-        (chain_of (link_trees chain))) }
-    ensures places { IfOk result (λ made. lowered_at made.place made.term ≡ turn_places origin.place (chain_places (link_places chain))) }
+        (trees_of chain.items)) }
+    ensures places { IfOk result (λ made. term_places made ≡ turn_places origin.place (places_of chain.items)) }
 {
-    let mut terms = link_terms(alloc, chain);
+    let mut terms = chain;
     let first = store(alloc, origin, value, index)?;
     terms.insert(0, first)?;
     terms.push(leaving(alloc, origin, Control::Break))?;
@@ -302,8 +313,8 @@ pub(crate) fn put_turn(
 ) -> Result<(), AllocError>
     ensures trees { OnOk result (backwards made.new.items ≡ loop_terms (plan_as flag []) crossed inside (node_tree turn)
         (backwards made.old.items)) }
-    ensures places { OnOk result (lowered_places (reverse made.new.items) ≡ loop_places crossed inside origin.place
-        (lowered_at turn.place turn.term) ++ lowered_places (reverse made.old.items)) }
+    ensures places { OnOk result (places_of (reverse made.new.items) ≡ loop_places crossed inside origin.place
+        (term_places turn) ++ places_of (reverse made.old.items)) }
 {
     if !crossed {
         made.push(turn)?;
@@ -334,8 +345,8 @@ pub(crate) fn put_continue(
     made: &mut Vec<Node>,
 ) -> Result<(), AllocError>
     ensures trees { OnOk result (backwards made.new.items ≡ continue_terms (plan_as flag []) inside (backwards made.old.items)) }
-    ensures places { OnOk result (lowered_places (reverse made.new.items) ≡ continue_places inside origin.place
-        ++ lowered_places (reverse made.old.items)) }
+    ensures places { OnOk result (places_of (reverse made.new.items) ≡ continue_places inside origin.place
+        ++ places_of (reverse made.old.items)) }
 {
     if inside {
         made.push(leaving(alloc, origin, Control::Break))?;

@@ -1,5 +1,5 @@
 //! The Default of a Switch.
-ghost use Rattle.std.specs.Prelude.{◌≡◌, Some, not, IfOk};
+ghost use Rattle.std.specs.Prelude.{◌≡◌, Some, not, reverse, IfOk};
 ghost use Rattle.std.specs.List.{filter};
 ghost use Rattle.acpi_names.specs.Walked.{term_shape};
 ghost use Rattle.switch_loops.specs.Kinds.{default_node, is_default as default_kind, shape_kind};
@@ -9,7 +9,7 @@ use crate::kind::{TermRole, kind_of};
 use asl_tree::term::Node;
 use std::alloc::{AllocError, Global};
 
-/// What stands in a Switch: its Cases, and its Default.
+/// What stands in a Switch: its Cases, the last first, and its Default.
 #[derive(Drop)]
 pub(crate) struct Split {
     pub cases: Vec<Node>,
@@ -31,7 +31,7 @@ fn earlier(node: Node, _later: Option<Node>) -> Option<Node>
 
 /// What stands in a Switch; of several Defaults it is the first one.
 pub(crate) fn split_cases(alloc: Global, nodes: Vec<Node>) -> Result<Split, AllocError>
-    ensures cases { IfOk result (λ split. split.cases.items ≡ filter (λ node. not (default_node node)) nodes.items) }
+    ensures cases { IfOk result (λ split. reverse split.cases.items ≡ filter (λ node. not (default_node node)) nodes.items) }
     ensures default { IfOk result (λ split. split.default ≡ first_default nodes.items) }
 {
     let mut left = nodes;
@@ -44,6 +44,5 @@ pub(crate) fn split_cases(alloc: Global, nodes: Vec<Node>) -> Result<Split, Allo
             cases.push(node)?;
         }
     }
-    cases.reverse();
     Ok(Split { cases, default })
 }

@@ -18,6 +18,7 @@ holds_terms (Op.Declaration Declaration.PowerResource) = true
 holds_terms (Op.Declaration Declaration.Processor) = true
 holds_terms (Op.Declaration Declaration.Scope) = true
 holds_terms (Op.Control Control.If) = true
+holds_terms (Op.Control Control.ElseIf) = true
 holds_terms (Op.Control Control.Else) = true
 holds_terms (Op.Control Control.While) = true
 holds_terms _ = false

@@ -7,7 +7,7 @@ use Rattle.acpi_values.specs.declared.width.Width.{Width}
 use Rattle.asl_tree.specs.declared.constant.NoConstant.{NoConstant}
 use Rattle.asl_tree.specs.declared.term.Op.{Op}
 use Rattle.asl_tree.specs.declared.term.Special.TheVariants as Special
-use Rattle.asl_terms.specs.Plans.{Plan, a_call, a_form, Plans, no_plans, plan, plan_at, constant_of}
+use Rattle.term_plans.specs.Plans.{Plan, a_call, a_form, Plans, no_plans, plan, plan_at, constant_of}
 use Rattle.form_presence.specs.Present.{is_list, has_op, have_op}
 use Rattle.type_checks.specs.Sizes.{list_length, is_below, told, size_errors, term_errors, long_lists}
 

@@ -12,7 +12,7 @@ use Rattle.asl_tree.specs.declared.term.Op.{Op as Operation}
 use Rattle.asl_tree.specs.declared.term.Op.TheVariants as Op
 use Rattle.asl_tree.specs.declared.term.Special.TheVariants as Special
 use Rattle.asl_tree.specs.declared.term.Symbolic.TheVariants as Symbolic
-use Rattle.asl_terms.specs.Plans.{Plan, a_name, a_form, Plans, no_plans, plan}
+use Rattle.term_plans.specs.Plans.{Plan, a_name, a_form, Plans, no_plans, plan}
 use Rattle.asl_numbers.specs.Numbers.{inside}
 use Rattle.iasl_messages.specs.declared.message.Message.{Message}
 use Rattle.iasl_messages.specs.declared.place.Place.{Place}

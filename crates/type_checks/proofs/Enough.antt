@@ -23,9 +23,9 @@ use Rattle.asl_tree.specs.declared.term.Symbolic.TheVariants as Symbolic
 use Rattle.asl_tree.specs.declared.term.Node.{Node}
 use Rattle.asl_tree.specs.declared.term.Term.{Term}
 use Rattle.asl_tree.specs.declared.term.Term as D
-use Rattle.asl_terms.specs.Plans.{Plan, a_name, debug, a_form, plan_of}
-use Rattle.asl_terms.proofs.Plans.{plan_form, plan_call}
-use Rattle.asl_terms.proofs.Terms.{name_term, debug_term}
+use Rattle.term_plans.specs.Plans.{Plan, a_name, debug, a_form, plan_of}
+use Rattle.term_plans.proofs.Plans.{plan_form, plan_call}
+use Rattle.term_plans.proofs.Terms.{name_term, debug_term}
 use Rattle.iasl_messages.specs.declared.message.Message.{Message}
 use Rattle.iasl_messages.specs.declared.place.Place.{Place}
 use Rattle.name_entries.specs.declared.kind.ObjectType.{ObjectType as Named}

@@ -6,9 +6,9 @@ use Rattle.asl_tree.specs.declared.term.Word.{Word}
 use Rattle.asl_tree.specs.declared.term.Node.{Node}
 use Rattle.asl_tree.specs.declared.term.Term.{Term}
 use Rattle.asl_tree.specs.declared.term.Term as D
-use Rattle.asl_terms.specs.Plans.{plan_of, plans_of}
-use Rattle.asl_terms.proofs.Plans.{plan_form, plan_call}
-use Rattle.asl_terms.proofs.Terms.{integer_term, word_term, text_term, debug_term, name_term}
+use Rattle.term_plans.specs.Plans.{plan_of, plans_of}
+use Rattle.term_plans.proofs.Plans.{plan_form, plan_call}
+use Rattle.term_plans.proofs.Terms.{integer_term, word_term, text_term, debug_term, name_term}
 use Rattle.asl_numbers.specs.Numbers.{inside, nodes}
 use Rattle.name_entries.specs.declared.kind.ObjectType.{ObjectType as Named}
 use Rattle.type_checks.specs.declared.kind.ValueKind.{ValueKind}

@@ -11,9 +11,9 @@ use Rattle.asl_tree.specs.declared.term.NamedDescriptor.{NamedDescriptor}
 use Rattle.asl_tree.specs.declared.term.Node.{Node}
 use Rattle.asl_tree.specs.declared.term.Term.{Term}
 use Rattle.asl_tree.specs.declared.term.Term as D
-use Rattle.asl_terms.specs.Plans.{plan_of, plans_of, plan_at, how_many, constant_of}
+use Rattle.term_plans.specs.Plans.{plan_of, plans_of, plan_at, how_many, constant_of}
 use Rattle.type_checks.specs.Sizes.{bytes_alone, byte_count, is_below, size_errors, term_errors, long_lists}
-use Rattle.asl_terms.proofs.Plans.{plan_form, plan_call}
+use Rattle.term_plans.proofs.Plans.{plan_form, plan_call}
 use Rattle.type_checks.proofs.Terms.{form_is, by_term, of_leaves, plans_at, no_more}
 
 -- ---- sizes

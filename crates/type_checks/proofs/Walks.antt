@@ -6,7 +6,7 @@ use Rattle.asl_tree.specs.declared.term.Op.{Op}
 use Rattle.asl_tree.specs.declared.term.Node.{Node}
 use Rattle.asl_tree.specs.declared.term.Term.{Term}
 use Rattle.asl_tree.specs.declared.term.Term as D
-use Rattle.asl_terms.specs.Plans.{plan_of, plans_of}
+use Rattle.term_plans.specs.Plans.{plan_of, plans_of}
 use Rattle.asl_numbers.specs.Numbers.{inside, nodes}
 use Rattle.name_entries.specs.declared.kind.ObjectType.{ObjectType as Named}
 use Rattle.type_checks.specs.Kinds.{wanted_of}

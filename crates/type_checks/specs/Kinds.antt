@@ -14,7 +14,7 @@ use Rattle.asl_tree.specs.declared.term.Control.TheVariants as Control
 use Rattle.asl_tree.specs.declared.term.Special.TheVariants as Special
 use Rattle.asl_tree.specs.declared.term.Symbolic.TheVariants as Symbolic
 use Rattle.asl_tree.specs.Symbols.{compound_operator}
-use Rattle.asl_terms.specs.Plans.{Plan, an_integer, a_text, a_word, debug, a_name, a_form, Plans, no_plans, plan}
+use Rattle.term_plans.specs.Plans.{Plan, an_integer, a_text, a_word, debug, a_name, a_form, Plans, no_plans, plan}
 use Rattle.asl_numbers.specs.Numbers.{inside}
 use Rattle.name_entries.specs.declared.kind.ObjectType.{ObjectType as Named}
 use Rattle.name_entries.specs.declared.kind.ObjectType.TheVariants as N

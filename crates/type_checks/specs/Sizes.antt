@@ -7,8 +7,8 @@ use Rattle.acpi_values.specs.declared.width.Width.{Width}
 use Rattle.asl_tree.specs.declared.constant.NoConstant.{NoConstant}
 use Rattle.asl_tree.specs.declared.term.Op.{Op}
 use Rattle.asl_tree.specs.declared.term.Special.TheVariants as Special
-use Rattle.asl_terms.specs.Plans.{Plan, a_text, a_fill, a_call, a_form, Plans, no_plans, plan, plan_at, how_many, constant_of}
-use Rattle.asl_terms.specs.Terms.{fault_at}
+use Rattle.term_plans.specs.Plans.{Plan, a_text, a_fill, a_call, a_form, Plans, no_plans, plan, plan_at, how_many, constant_of}
+use Rattle.term_plans.specs.Places.{fault_at}
 
 -- how many bytes a string or the contents of a macro are; a string has a 00 behind it
 abbrev pub bytes_alone : Plan → Option ℕ

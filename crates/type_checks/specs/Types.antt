@@ -5,8 +5,8 @@ use Rattle.iasl_messages.specs.declared.message.Message.{Message}
 use Rattle.iasl_messages.specs.declared.place.Place.{Place}
 use Rattle.asl_tree.specs.Tree.{Trees}
 use Rattle.asl_tree.specs.declared.term.Op.{Op}
-use Rattle.asl_terms.specs.Plans.{Plan, a_call, a_form, Plans, no_plans, plan}
-use Rattle.asl_terms.specs.Terms.{fault_at}
+use Rattle.term_plans.specs.Plans.{Plan, a_call, a_form, Plans, no_plans, plan}
+use Rattle.term_plans.specs.Places.{fault_at}
 use Rattle.asl_numbers.specs.Numbers.{inside, nodes}
 use Rattle.name_entries.specs.declared.kind.ObjectType.{ObjectType as Named}
 use Rattle.type_checks.specs.declared.kind.ValueKind.{ValueKind}

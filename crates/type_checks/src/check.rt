@@ -2,7 +2,7 @@
 ghost use Rattle.std.specs.Prelude.{◌≡◌, ◌+◌, ◌^◌, ◌<◌, ◌≤◌, ◌++◌, ℕ, suc, length, get_or, IfOk, IfErr, OnOk, false, true};
 ghost use Rattle.asl_tree.specs.View.{trees_of};
 ghost use Rattle.acpi_names.specs.Terms.{are_terms};
-ghost use Rattle.asl_terms.specs.Plans.{plan_of, plans_of};
+ghost use Rattle.term_plans.specs.Plans.{plan_of, plans_of};
 ghost use Rattle.asl_numbers.specs.Numbers.{inside, nodes as node_count};
 ghost use Rattle.name_kinds.specs.Known.{KnowsItsTerms};
 ghost use Rattle.type_checks.specs.Kinds.{any_data as any_kinds, given, kinds_all, kinds_of, leaf_kinds as kinds_of_leaf};

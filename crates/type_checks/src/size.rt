@@ -1,7 +1,7 @@
 //! Lists that are longer than their sizes.
 ghost use Rattle.std.specs.Prelude.{◌≡◌, ◌++◌, Some, IfOk, OnOk, slice_get, unwrap_or};
 ghost use Rattle.std.specs.Option.{option_copied};
-ghost use Rattle.asl_terms.specs.Plans.{how_many, plan_at, plan_of, plans_of, constant_of};
+ghost use Rattle.term_plans.specs.Plans.{how_many, plan_at, plan_of, plans_of, constant_of};
 ghost use Rattle.type_checks.specs.Sizes as spec;
 
 use acpi_values::width::Width;
@@ -20,7 +20,7 @@ fn first_of(nodes: &[Node]) -> Option<&Node>
 }
 
 // The value of a constant at a width.
-#[tactic(auto, using(asl_terms::proofs::Constants::constant_is))]
+#[tactic(auto, using(term_plans::proofs::Constants::constant_is))]
 fn constant_in(width: Width, term: &Term) -> Result<u64, NoConstant>
     ensures { result ≡ constant_of width (plan_of term.now) }
 {

@@ -160,7 +160,7 @@ module _ (Listed : List (FieldItem UnitName) → Type 0) (Symbols Switches : Typ
     formed (Container' kind at name body) h = (h.0, h.1, all_by body h.2 (behind_formed body h.2))
     formed (Scope here at name body) h = (h.0, all_by body h.1 (behind_formed body h.1))
     formed (If test body) h = (expression_same test ∙ h.0, formed test h.1, all_by body h.2 (behind_formed body h.2))
-    formed (ElseIf test body) h = (h.0, expression_same test ∙ h.1, formed test h.2, all_by body h.3 (behind_formed body h.3))
+    formed (ElseIf test body) h = (expression_same test ∙ h.0, formed test h.1, all_by body h.2 (behind_formed body h.2))
     formed (Switch value cases) h = (h.0, expression_same value ∙ h.1, formed value h.2, cases_formed cases h.3)
     formed (Case value body) h = absurd h
     formed (Default body) h = absurd h

@@ -99,7 +99,7 @@ inner_none here (Op.Declaration Declaration.CreateDWordField) (tree source (tree
 inner_none here (Op.Declaration Declaration.CreateQWordField) (tree source (tree index (tree (Use at name) no_trees))) no_trees e = refl
 inner_none here (Op.Control Control.Return) (tree value no_trees) no_trees e = refl
 inner_none here (Op.Control Control.If) args body e = absurd cc
-inner_none here (Op.Control Control.ElseIf) (tree test no_trees) body e = refl
+inner_none here (Op.Control Control.ElseIf) args body e = absurd cc
 inner_none here (Op.Control Control.Else) args body e = absurd cc
 inner_none here (Op.Control Control.While) args body e = absurd cc
 inner_none here (Op.Control Control.For) (tree start (tree test (tree step no_trees))) body e = refl
@@ -136,6 +136,8 @@ inner_of here (Op.Declaration Declaration.Scope) (tree (Use at name) no_trees) b
 inner_of here (Op.Declaration Declaration.Scope) _ body e h = absurd h
 inner_of here (Op.Control Control.If) (tree test no_trees) body e h = (h.2, refl)
 inner_of here (Op.Control Control.If) _ body e h = absurd h
+inner_of here (Op.Control Control.ElseIf) (tree test no_trees) body e h = (h.2, refl)
+inner_of here (Op.Control Control.ElseIf) _ body e h = absurd h
 inner_of here (Op.Control Control.Else) no_trees body e h = (h, refl)
 inner_of here (Op.Control Control.Else) _ body e h = absurd h
 inner_of here (Op.Control Control.While) (tree test no_trees) body e h = (h.2, refl)

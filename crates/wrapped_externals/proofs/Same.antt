@@ -42,7 +42,7 @@ use Rattle.asl_meaning.specs.Meaning.{SourceRun, SpotForm, OfResult, OfInside, N
 use Rattle.asl_meaning.specs.SourceSession.{source_session}
 use Rattle.wrapped_externals.specs.Wraps.{starts_branch, leading, in_if, guarded, wrapped, wrapped_args, behind, wrapped_all}
 use Rattle.asl_lower.specs.Nests.{joined}
-use Rattle.asl_fold.proofs.Alike.{Alike, alike_done, alike_stop, alike_fault, alike_then, alike_to, alike_act, alike_existing, alike_look, alike_if, alike_valued, alike_on_flow, alike_loop, alike_create, alike_keep, alike_body, alike_activation, alike_use, alike_written, alike_region, alike_buffer_field, same_session}
+use Rattle.else_runs.proofs.Alike.{Alike, alike_done, alike_stop, alike_fault, alike_then, alike_to, alike_act, alike_existing, alike_look, alike_if, alike_valued, alike_on_flow, alike_loop, alike_create, alike_keep, alike_body, alike_activation, alike_use, alike_written, alike_region, alike_buffer_field, same_session}
 
 module _ (width : Width) (known : Known) where
   alike_find : (name : Path) (scope : AbsolutePath) → Alike wrapped_all (S.find known name scope) (S.find known name scope)

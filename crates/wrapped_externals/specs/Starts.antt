@@ -1,7 +1,7 @@
 -- Where the terms of a program stand whose Externals stand in Ifs: each of these Ifs stands at the place of the first External in it.
 use Rattle.std.specs.Prelude.{Bool, true, false, not, ◌&&◌, List, [], ◌∷◌, ◌++◌}
 use Rattle.iasl_messages.specs.declared.place.Place.{Place}
-use Rattle.asl_tree.specs.Tree.{Tree, External, Method, Container', Scope, If, Else, While, Trees, no_trees, tree}
+use Rattle.asl_tree.specs.Tree.{Tree, External, Method, Container', Scope, If, ElseIf, Else, While, Trees, no_trees, tree}
 use Rattle.wrapped_externals.specs.Wraps.{starts_branch}
 
 -- whether no Else stands behind the Externals that stand first
@@ -16,6 +16,7 @@ abbrev mutual
   inner_starts (Container' kind at name body) = starts false body
   inner_starts (Scope here at name body) = starts false body
   inner_starts (If test body) = starts false body
+  inner_starts (ElseIf test body) = starts false body
   inner_starts (Else body) = starts false body
   inner_starts (While test body) = starts false body
   inner_starts term = []

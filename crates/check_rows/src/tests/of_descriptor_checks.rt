@@ -1,6 +1,6 @@
 ghost use Rattle.std.specs.Prelude.{◌≡◌};
 ghost use Rattle.asl_numbers.specs.Numbers.{numbered_all};
-ghost use Rattle.asl_terms.specs.Plans.{plans_of};
+ghost use Rattle.term_plans.specs.Plans.{plans_of};
 ghost use Rattle.asl_tree.specs.View.{trees_of};
 
 use super::terms_of;

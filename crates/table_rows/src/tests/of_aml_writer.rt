@@ -53,9 +53,9 @@ pub(super) const ALL_FORMS: &str =
 /// (a resource of two bytes), AccessAs (BufferAcc, AttribBytes (9)), UNTB, 16 }
 pub(super) const CONNECTED: &str = "REGA 5 { CON0 /6 +UNTA.8 *4 @4 [ /11.9 +UNTB.16 } Field";
 
-/// Method (MAIN, 0) { If (Local0) { 1 } ElseIf (Local1) { 1 1 } Else { 1 } }: the ElseIf is an Else and the If that begins it, at
-/// one place.
-pub(super) const ELSE_IFS: &str = "MAIN 0 { L0 { 1 } If { L1 { 1 1 } If { 1 } Else } Else } Method";
+/// Method (MAIN, 0) { If (Local0) { 1 } ElseIf (Local1) { 1 1 } Else { 1 } }: the ElseIf has one piece, of an Else and of the If that
+/// begins it.
+pub(super) const ELSE_IFS: &str = "MAIN 0 { L0 { 1 } If L1 { 1 1 } ElseIf { 1 } Else } Method";
 
 /// A core of one block with the terms of a text.
 pub(super) fn core(alloc: Global, head: &Head, text: &str) -> Result<Core, AllocError> {

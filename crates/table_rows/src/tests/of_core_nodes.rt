@@ -5,9 +5,11 @@ use std::test::Fail;
 
 /// Terms, how many nodes they have, and what the copies of the steps of Fors in them weigh where constants are folded, and where they are
 /// not, counted by hand.
-static COUNTS: [(&str, u64, u64, u64); 12] = [
+static COUNTS: [(&str, u64, u64, u64); 13] = [
     // The method, its name and its flags; the If and its test; the Store with its two operands
     ("X 0 { L0 { 1 L1 Store } If } Method", 8, 0, 0),
+    // An ElseIf is one node, as an If and an Else are
+    ("L0 { 1 } If L1 { 2 } ElseIf { 3 } Else", 8, 0, 0),
     // A string in a Buffer has a 00 behind it; a size that is left out is a node
     ("X - { 'AB' } Buffer Name", 7, 0, 0),
     ("X - { 1 2 3 } Buffer Name", 7, 0, 0),

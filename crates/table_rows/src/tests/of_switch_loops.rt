@@ -9,8 +9,8 @@ use switch_loops::loops::loops;
 static LOOPS: [(&str, &str); 5] = [
     (
         "A0 { { 20 Return } Default 1 { 10 Return } Case - { 2 3 } Package { Break } Case } Switch",
-        "One { A0 L0 Store@25 L0 1 LEqual { 10 Return@11 } If@13 { L0 2 LEqual L0 3 LEqual LOr { Break@21 } If@23 { 20 Return@5 } Else@7 } \
-            Else@23 Break@25 } While@25 ",
+        "One { A0 L0 Store@25 L0 1 LEqual { 10 Return@11 } If@13 L0 2 LEqual L0 3 LEqual LOr { Break@21 } ElseIf@23 { 20 Return@5 } \
+            Else@7 Break@25 } While@25 ",
     ),
     (
         "L0 2 LLess { L0 { 1 { Continue } Case } Switch L0 L1 Store } While L1 Return",

@@ -13,7 +13,7 @@ use std::alloc::{AllocError, Global};
 use std::mem::replace;
 
 /// The word of an operator, and how many arguments stand before it.
-static OPERATORS: [(&str, Op, usize); 32] = [
+static OPERATORS: [(&str, Op, usize); 33] = [
     ("Name", Op::Declaration(Declaration::Name), 2),
     ("Method", Op::Declaration(Declaration::Method), 2),
     ("External", Op::Declaration(Declaration::External), 2),
@@ -24,6 +24,7 @@ static OPERATORS: [(&str, Op, usize); 32] = [
     ),
     ("Field", Op::Declaration(Declaration::Field), 2),
     ("If", Op::Control(Control::If), 1),
+    ("ElseIf", Op::Control(Control::ElseIf), 1),
     ("Else", Op::Control(Control::Else), 0),
     ("While", Op::Control(Control::While), 1),
     ("For", Op::Control(Control::For), 3),

@@ -1,99 +1,61 @@
-use Rattle.std.proofs.Common.{List, ◌≡◌, ◌+◌, ◌-◌, ◌<◌, [], length, take, drop, sym, ap, ◌∙◌, subst, arith}
-use Rattle.std.proofs.lemmas.List.{take_all, drop_all}
+use Rattle.std.proofs.Common.{ℕ, List, ◌≡◌, ◌≤◌, ◌+◌, ◌-◌, ◌<◌, length, drop, sym, ap, ◌∙◌, subst, arith}
+use Rattle.std.proofs.lemmas.List.{drop_all}
 use Rattle.asl_tree.specs.declared.term.Node.{Node}
-use Rattle.aml_sizes.specs.TermBytes.{nodes_bytes}
-use Rattle.aml_writer.specs.Fills.{nodes_parts, EndsIn, Fills}
-use Rattle.aml_sizes.proofs.Weights.{term_weight, form_weight, node_weight, opened_weight}
-use Rattle.aml_sizes.proofs.NodePieces.{grown_by, next_size, size_done, container_put}
-use Rattle.aml_writer.proofs.ElseIfParts.{first_and_rest, own_parts_are, else_if_parts_are, else_if_length}
-use Rattle.aml_writer.proofs.Parts.{own_ends, own_head_ends, own_filled, rest_ends, inner_ends, joint_ends, joint_filled, joint_size, none_parts, node_ends, next_ends, next_filled, container_parts}
+use Rattle.aml_sizes.specs.TermLists.{run_from, own_bytes, terms_bytes, later_of}
+use Rattle.aml_writer.specs.Fills.{EndsIn, Fills}
+use Rattle.aml_sizes.proofs.Weights.{term_weight, form_weight, node_weight}
+use Rattle.aml_sizes.proofs.TermLists.{at_next, later_cons, none_later, later_within, container_is, container_length}
+use Rattle.aml_sizes.proofs.NodePieces.{grown_by, next_size, none_size}
+use Rattle.aml_writer.proofs.Parts.{own_ends, own_head_ends, own_filled, none_parts, node_ends, next_filled, container_parts}
 use Rattle.aml_writer.proofs.fill.+fill.Goals as goal
 
-pub fill_container-fill_own-requires : goal.fill_container-fill_own-requires
-fill_container-fill_own-requires t c =
-    (omega (arith, c.decreases), subst (EndsIn c.args.filling.now.spaces.items) (own_parts_are c.args.style c.args.place c.args.op c.args.args.now c.args.body.now (sym c.is_else_if.ensures ∙ c.if-is_else_if.false)) c.requires)
-
-pub fill_container-returns-else-is_else_if-clause-fills : goal.fill_container-returns-else-is_else_if-clause-fills
-fill_container-returns-else-is_else_if-clause-fills t c =
-    subst (λ parts. Fills parts c.args.filling.now.spaces.items c.fill_own.new.filling.spaces.items c.args.filling.now.pieces.items c.fill_own.new.filling.pieces.items) (sym (own_parts_are c.args.style c.args.place c.args.op c.args.args.now c.args.body.now (sym c.is_else_if.ensures ∙ c.if-is_else_if.false))) c.fill_own.ensures.fills
-
-pub fill_else_if-fill_terms-requires : goal.fill_else_if-fill_terms-requires
-fill_else_if-fill_terms-requires t c = (omega (arith, c.decreases), rest_ends c.args.style c.args.op c.args.args.now c.args.first_op c.args.first_args.now c.args.inner.now c.args.rest.now c.args.filling.now.spaces.items c.requires)
-
-pub fill_else_if-fill_terms-requires-2 : goal.fill_else_if-fill_terms-requires-2
-fill_else_if-fill_terms-requires-2 t c = (omega (arith, c.decreases), inner_ends c.args.style c.args.op c.args.args.now c.args.first_op c.args.first_args.now c.args.inner.now c.args.rest.now c.args.filling.now.spaces.items c.fill_terms.new.filling.spaces.items c.args.filling.now.pieces.items c.fill_terms.new.filling.pieces.items c.requires c.fill_terms.ensures.fills)
-
-pub fill_else_if-fill_else_if_head-requires-clause-ends : goal.fill_else_if-fill_else_if_head-requires-clause-ends
-fill_else_if-fill_else_if_head-requires-clause-ends t c =
-    joint_ends c.args.style c.args.op c.args.args.now c.args.first_op c.args.first_args.now c.args.inner.now c.args.rest.now (c.fill_terms-2.new.filling.size - c.fill_terms.new.filling.size) (c.fill_terms.new.filling.size - c.args.filling.now.size)
-    c.args.filling.now.spaces.items c.fill_terms.new.filling.spaces.items c.fill_terms-2.new.filling.spaces.items c.args.filling.now.pieces.items c.fill_terms.new.filling.pieces.items c.fill_terms-2.new.filling.pieces.items
-    c.requires c.fill_terms.ensures.fills c.fill_terms-2.ensures.fills (grown_by _ _ _ c.fill_terms-2.ensures.size) (grown_by _ _ _ c.fill_terms.ensures.size)
-
-pub fill_else_if-returns-clause-fills : goal.fill_else_if-returns-clause-fills
-fill_else_if-returns-clause-fills t c =
-    joint_filled c.args.style c.args.op c.args.args.now c.args.first_op c.args.first_args.now c.args.inner.now c.args.rest.now (c.fill_terms-2.new.filling.size - c.fill_terms.new.filling.size) (c.fill_terms.new.filling.size - c.args.filling.now.size)
-    c.args.filling.now.spaces.items c.fill_terms.new.filling.spaces.items c.fill_terms-2.new.filling.spaces.items c.fill_else_if_head.new.filling.spaces.items c.args.filling.now.pieces.items c.fill_terms.new.filling.pieces.items c.fill_terms-2.new.filling.pieces.items c.fill_else_if_head.new.filling.pieces.items
-    c.fill_terms.ensures.fills c.fill_terms-2.ensures.fills c.fill_else_if_head.ensures.fills (grown_by _ _ _ c.fill_terms-2.ensures.size) (grown_by _ _ _ c.fill_terms.ensures.size)
-
-pub fill_else_if-returns-clause-size : goal.fill_else_if-returns-clause-size
-fill_else_if-returns-clause-size t c =
-    joint_size c.args.style c.args.op c.args.args.now c.args.first_op c.args.first_args.now c.args.inner.now c.args.rest.now (c.fill_terms-2.new.filling.size - c.fill_terms.new.filling.size) (c.fill_terms.new.filling.size - c.args.filling.now.size)
-    c.args.filling.now.size c.fill_terms.new.filling.size c.fill_terms-2.new.filling.size c.fill_else_if_head.new.filling.size (grown_by _ _ _ c.fill_terms-2.ensures.size) (grown_by _ _ _ c.fill_terms.ensures.size) c.fill_terms.ensures.size c.fill_terms-2.ensures.size c.fill_else_if_head.ensures.size
-
-pub fill_opened-fill_else_if-requires : goal.fill_opened-fill_else_if-requires
-fill_opened-fill_else_if-requires t c =
-    let inside = opened_weight c.args.body.now c.first-item.result (take (length c.args.body.now - 1) (drop 1 c.args.body.now)) c.in-Form.first_op c.in-Form.first_args c.in-Form.inner c.deref-in-Form.result.now (first_and_rest c.args.body.now c.first-item.result c.in-len1-up.len_at_least c.first-item.is) c.in-Form.is c.deref-in-Form.ensures.value in (
-      omega (arith, c.decreases, inside),
-      subst (EndsIn c.args.filling.now.spaces.items)
-          (else_if_parts_are c.args.style c.args.place c.args.op c.args.args.now c.args.body.now c.first-item.result (take (length c.args.body.now - 1) (drop 1 c.args.body.now))
-          c.in-Form.first_op c.in-Form.first_args c.in-Form.inner c.deref.result.now c.deref-in-Form.result.now (first_and_rest c.args.body.now c.first-item.result c.in-len1-up.len_at_least c.first-item.is) c.in-Form.is c.deref.ensures.value c.deref-in-Form.ensures.value c.requires.opens) c.requires.ends,
-    )
-
-pub fill_opened-returns-clause-fills : goal.fill_opened-returns-clause-fills
-fill_opened-returns-clause-fills t c =
-    subst (λ parts. Fills parts c.args.filling.now.spaces.items c.fill_else_if.new.filling.spaces.items c.args.filling.now.pieces.items c.fill_else_if.new.filling.pieces.items)
-    (sym (else_if_parts_are c.args.style c.args.place c.args.op c.args.args.now c.args.body.now c.first-item.result (take (length c.args.body.now - 1) (drop 1 c.args.body.now))
-    c.in-Form.first_op c.in-Form.first_args c.in-Form.inner c.deref.result.now c.deref-in-Form.result.now (first_and_rest c.args.body.now c.first-item.result c.in-len1-up.len_at_least c.first-item.is) c.in-Form.is c.deref.ensures.value c.deref-in-Form.ensures.value c.requires.opens)) c.fill_else_if.ensures.fills
-
-pub fill_opened-returns-clause-size : goal.fill_opened-returns-clause-size
-fill_opened-returns-clause-size t c =
-    c.fill_else_if.ensures.size ∙ ap (λ n. c.args.filling.now.size + n)
-    (sym (else_if_length c.args.style c.args.place c.args.op c.args.args.now c.args.body.now c.first-item.result (take (length c.args.body.now - 1) (drop 1 c.args.body.now))
-    c.in-Form.first_op c.in-Form.first_args c.in-Form.inner c.deref.result.now c.deref-in-Form.result.now (first_and_rest c.args.body.now c.first-item.result c.in-len1-up.len_at_least c.first-item.is) c.in-Form.is c.deref.ensures.value c.deref-in-Form.ensures.value c.requires.opens))
-
 pub fill_own-fill_terms-requires : goal.fill_own-fill_terms-requires
-fill_own-fill_terms-requires t c = (omega (arith, c.decreases), own_ends c.args.style c.args.op c.args.args.now c.args.body.now c.args.filling.now.spaces.items c.requires)
+fill_own-fill_terms-requires t c = (omega (arith, c.decreases), own_ends c.args.style c.args.op c.args.args.now c.args.body.now c.args.later c.args.filling.now.spaces.items c.requires.ends)
 
 pub fill_own-fill_head-requires-clause-ends : goal.fill_own-fill_head-requires-clause-ends
-fill_own-fill_head-requires-clause-ends t c = own_head_ends c.args.style c.args.op c.args.args.now c.args.body.now (c.fill_terms.new.filling.size - c.args.filling.now.size) c.args.filling.now.spaces.items c.fill_terms.new.filling.spaces.items c.args.filling.now.pieces.items c.fill_terms.new.filling.pieces.items c.requires c.fill_terms.ensures.fills (grown_by _ _ _ c.fill_terms.ensures.size)
+fill_own-fill_head-requires-clause-ends t c =
+    own_head_ends c.args.style c.args.op c.args.args.now c.args.body.now c.args.later (c.fill_terms.new.filling.size - c.args.filling.now.size) c.args.filling.now.spaces.items c.fill_terms.new.filling.spaces.items c.args.filling.now.pieces.items c.fill_terms.new.filling.pieces.items
+    c.requires.ends c.fill_terms.ensures.fills (grown_by _ _ _ c.fill_terms.ensures.size)
+
+pub fill_own-fill_head-requires-clause-size : goal.fill_own-fill_head-requires-clause-size
+fill_own-fill_head-requires-clause-size t c =
+    let within = c.fill_terms.new.filling.within in
+    let before = c.args.filling.now.within in
+    omega (arith, within, before, c.requires.later)
 
 pub fill_own-returns-clause-fills : goal.fill_own-returns-clause-fills
 fill_own-returns-clause-fills t c =
-    own_filled c.args.style c.args.op c.args.args.now c.args.body.now (c.fill_terms.new.filling.size - c.args.filling.now.size)
+    own_filled c.args.style c.args.op c.args.args.now c.args.body.now c.args.later (c.fill_terms.new.filling.size - c.args.filling.now.size)
     c.args.filling.now.spaces.items c.fill_terms.new.filling.spaces.items c.fill_head.new.filling.spaces.items c.args.filling.now.pieces.items c.fill_terms.new.filling.pieces.items c.fill_head.new.filling.pieces.items c.fill_terms.ensures.fills c.fill_head.ensures.fills (grown_by _ _ _ c.fill_terms.ensures.size)
 
-pub fill_term-fill_container-requires : goal.fill_term-fill_container-requires
-fill_term-fill_container-requires t c =
+pub fill_own-returns-clause-size : goal.fill_own-returns-clause-size
+fill_own-returns-clause-size t c =
+    let whole = container_length c.args.style c.args.op c.args.args.now c.args.body.now (c.fill_terms.new.filling.size - c.args.filling.now.size) c.args.later (grown_by _ _ _ c.fill_terms.ensures.size) in
+    omega (arith, whole, c.fill_terms.ensures.size, c.fill_head.ensures.size)
+
+pub fill_term-fill_own-requires : goal.fill_term-fill_own-requires
+fill_term-fill_own-requires t c =
     let inside = form_weight c.args.node.now.term c.in-Form.op c.in-Form.args c.in-Form.body c.deref-then-holds_terms.result.now c.deref.result.now c.in-Form.is c.deref-then-holds_terms.ensures.value c.deref.ensures.value in
-    (omega (arith, c.decreases, inside), subst (EndsIn c.args.filling.now.spaces.items) (container_parts c.args.style c.args.node.now.place c.in-Form.op c.in-Form.args c.in-Form.body c.args.node.now.term c.deref-then-holds_terms.result.now c.deref.result.now c.in-Form.is c.deref-then-holds_terms.ensures.value c.deref.ensures.value (sym c.holds_terms.ensures ∙ c.if-holds_terms.true)) c.requires)
+    let parts = container_parts c.args.style c.args.later c.args.node.now.place c.in-Form.op c.in-Form.args c.in-Form.body c.args.node.now.term c.deref-then-holds_terms.result.now c.deref.result.now c.in-Form.is c.deref-then-holds_terms.ensures.value c.deref.ensures.value (sym c.holds_terms.ensures ∙ c.if-holds_terms.true) in
+    (omega (arith, c.decreases, inside), (subst (EndsIn c.args.filling.now.spaces.items) parts c.requires.ends, c.requires.later))
 
 pub fill_term-returns-then-holds_terms-clause-fills : goal.fill_term-returns-then-holds_terms-clause-fills
 fill_term-returns-then-holds_terms-clause-fills t c =
-    subst (λ parts. Fills parts c.args.filling.now.spaces.items c.fill_container.new.filling.spaces.items c.args.filling.now.pieces.items c.fill_container.new.filling.pieces.items)
-    (sym (container_parts c.args.style c.args.node.now.place c.in-Form.op c.in-Form.args c.in-Form.body c.args.node.now.term c.deref-then-holds_terms.result.now c.deref.result.now c.in-Form.is c.deref-then-holds_terms.ensures.value c.deref.ensures.value (sym c.holds_terms.ensures ∙ c.if-holds_terms.true))) c.fill_container.ensures.fills
+    subst (λ parts. Fills parts c.args.filling.now.spaces.items c.fill_own.new.filling.spaces.items c.args.filling.now.pieces.items c.fill_own.new.filling.pieces.items)
+    (sym (container_parts c.args.style c.args.later c.args.node.now.place c.in-Form.op c.in-Form.args c.in-Form.body c.args.node.now.term c.deref-then-holds_terms.result.now c.deref.result.now c.in-Form.is c.deref-then-holds_terms.ensures.value c.deref.ensures.value (sym c.holds_terms.ensures ∙ c.if-holds_terms.true))) c.fill_own.ensures.fills
 
 pub fill_term-returns-then-holds_terms-clause-size : goal.fill_term-returns-then-holds_terms-clause-size
 fill_term-returns-then-holds_terms-clause-size t c =
-    c.fill_container.ensures.size ∙ ap (λ bs. c.args.filling.now.size + length bs) (container_put c.args.style [] c.in-Form.op c.in-Form.args c.in-Form.body c.args.node.now.term c.deref-then-holds_terms.result.now c.deref.result.now c.in-Form.is c.deref-then-holds_terms.ensures.value c.deref.ensures.value (sym c.holds_terms.ensures ∙ c.if-holds_terms.true))
+    c.fill_own.ensures.size ∙ ap (λ bs. c.args.filling.now.size + length bs) (container_is c.args.style c.args.later c.in-Form.op c.in-Form.args c.in-Form.body c.args.node.now.term c.deref-then-holds_terms.result.now c.deref.result.now c.in-Form.is c.deref-then-holds_terms.ensures.value c.deref.ensures.value (sym c.holds_terms.ensures ∙ c.if-holds_terms.true))
 
 pub fill_terms-loop-left-init : goal.fill_terms-loop-left-init
 fill_terms-loop-left-init t c =
-    let all = take_all (length c.args.nodes.now) c.args.nodes.now (omega arith) in
+    let none = drop_all (length c.args.nodes.now) c.args.nodes.now (omega arith) in
     record {
       within = omega arith;
-      ends = subst (λ (ns : List Node). EndsIn c.args.filling.now.spaces.items (nodes_parts c.args.style ns)) (sym all) c.requires;
-      fills = none_parts c.args.style (drop (length c.args.nodes.now) c.args.nodes.now) c.args.filling.now.spaces.items c.args.filling.now.pieces.items (drop_all (length c.args.nodes.now) c.args.nodes.now (omega arith));
-      size = ap (λ (ns : List Node). c.args.filling.now.size + length (nodes_bytes c.args.style [] ns)) all;
+      later = sym (ap (later_of c.args.style) none ∙ none_later c.args.style);
+      fills = none_parts c.args.style (drop (length c.args.nodes.now) c.args.nodes.now) c.args.filling.now.spaces.items c.args.filling.now.pieces.items none;
+      size = let no = none_size c.args.style (drop (length c.args.nodes.now) c.args.nodes.now) none in omega (arith, no);
     }
 
 pub fill_terms-fill_term-requires : goal.fill_terms-fill_term-requires
@@ -103,21 +65,33 @@ fill_terms-fill_term-requires t c =
     let ns = c.args.nodes.now in
     let inside = node_weight ns i d (omega arith) in
     let here = ap (λ (n : Node). term_weight n.term) c.index-nodes-left.is in
-    (omega (arith, c.decreases, inside, here), node_ends c.args.style ns i c.loop-left.left d c.loop-left.filling.spaces.items (omega arith) (omega arith) c.index-nodes-left.is c.loop-left.invariant.ends)
+    let run = later_within c.args.style (drop c.loop-left.left ns) in (
+      omega (arith, c.decreases, inside, here),
+      (
+        node_ends c.args.style ns i c.loop-left.left c.loop-left.later d c.args.filling.now.spaces.items c.loop-left.filling.spaces.items c.args.filling.now.pieces.items c.loop-left.filling.pieces.items (omega arith) (omega arith) c.index-nodes-left.is c.loop-left.invariant.later c.requires c.loop-left.invariant.fills,
+        omega (arith, run, c.loop-left.invariant.later, c.loop-left.invariant.size),
+      ),
+    )
 
 pub fill_terms-loop-left-preserved : goal.fill_terms-loop-left-preserved
 fill_terms-loop-left-preserved t c =
+    let style = c.args.style in
     let d = c.index-nodes-left.result in
     let i = c.loop-left.left - 1 in
+    let left = c.loop-left.left in
     let ns = c.args.nodes.now in
-    let e : i + 1 ≡ c.loop-left.left = omega arith in
+    let e : i + 1 ≡ left = omega arith in
     let lt : i < length ns = omega arith in
+    let size = next_size style ns i left c.loop-left.later d c.loop-left.filling.size c.fill_term.new.filling.size _ e lt c.index-nodes-left.is c.loop-left.invariant.later c.loop-left.invariant.size c.fill_term.ensures.size in
+    let own : c.fill_term.new.filling.size - c.loop-left.filling.size ≡ length (own_bytes style c.loop-left.later d.term) = grown_by _ _ _ c.fill_term.ensures.size in
+    let run : later_of style (drop i ns) ≡ run_from d.term (c.fill_term.new.filling.size - c.loop-left.filling.size) c.loop-left.later =
+    at_next (later_of style) ns i left d e lt c.index-nodes-left.is ∙ later_cons style d (drop left ns)
+    ∙ ap (λ n. run_from d.term (length (own_bytes style n d.term)) n) (sym c.loop-left.invariant.later) ∙ ap (λ n. run_from d.term n c.loop-left.later) (sym own) in
+    let few = later_within style (drop i ns) in
+    let most = c.fill_term.new.filling.within in
     record {
       within = omega arith;
-      ends = next_ends c.args.style ns i c.loop-left.left d c.loop-left.filling.spaces.items c.fill_term.new.filling.spaces.items c.loop-left.filling.pieces.items c.fill_term.new.filling.pieces.items e lt c.index-nodes-left.is c.loop-left.invariant.ends c.fill_term.ensures.fills;
-      fills = next_filled c.args.style ns i c.loop-left.left d c.args.filling.now.spaces.items c.loop-left.filling.spaces.items c.fill_term.new.filling.spaces.items c.args.filling.now.pieces.items c.loop-left.filling.pieces.items c.fill_term.new.filling.pieces.items e lt c.index-nodes-left.is c.loop-left.invariant.fills c.fill_term.ensures.fills;
-      size = next_size c.args.style ns i c.loop-left.left d c.loop-left.filling.size c.fill_term.new.filling.size _ e lt c.index-nodes-left.is c.loop-left.invariant.size c.fill_term.ensures.size;
+      later = omega (arith, c.run_from-later.ensures, run, few, size, most);
+      fills = next_filled style ns i left c.loop-left.later d c.args.filling.now.spaces.items c.loop-left.filling.spaces.items c.fill_term.new.filling.spaces.items c.args.filling.now.pieces.items c.loop-left.filling.pieces.items c.fill_term.new.filling.pieces.items e lt c.index-nodes-left.is c.loop-left.invariant.later c.loop-left.invariant.fills c.fill_term.ensures.fills;
+      size = size;
     }
-
-pub fill_terms-returns-clause-size : goal.fill_terms-returns-clause-size
-fill_terms-returns-clause-size t c = size_done c.args.style c.args.nodes.now c.loop-left.left c.loop-left.filling.size _ (omega arith) c.loop-left.invariant.size

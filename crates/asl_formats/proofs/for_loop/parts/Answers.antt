@@ -1,7 +1,7 @@
 use Rattle.std.proofs.Common.{◌≡◌, ap, ◌∙◌, arith}
 use Rattle.asl_tree.specs.View.{trees_of}
 use Rattle.asl_prints.specs.Forms.{followed, stepped_all}
-use Rattle.asl_terms.specs.Plans.{join, plan_of, plans_of}
+use Rattle.term_plans.specs.Plans.{join, plan_of, plans_of}
 use Rattle.asl_formats.specs.Plain.{is_plain}
 use Rattle.asl_prints.specs.Plans as P
 use Rattle.asl_formats.specs.Bare.{shown}

@@ -1,5 +1,5 @@
 use Rattle.asl_tree.specs.View.{trees_of}
-use Rattle.asl_terms.specs.Plans.{plans_of}
+use Rattle.term_plans.specs.Plans.{plans_of}
 use Rattle.asl_prints.specs.Numbers.{numbers_of}
 use Rattle.asl_formats.proofs.Shown.{loop_shown, loop_third}
 use Rattle.asl_formats.proofs.StepNumbers.{loop_numbers}

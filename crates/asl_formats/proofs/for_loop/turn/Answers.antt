@@ -1,6 +1,6 @@
 use Rattle.std.proofs.Common.{[], ◌∷◌, ◌∙◌}
 use Rattle.asl_tree.specs.View.{trees_of}
-use Rattle.asl_terms.specs.Plans.{plans_of}
+use Rattle.term_plans.specs.Plans.{plans_of}
 use Rattle.asl_prints.specs.Forms.{followed, stepped_all}
 use Rattle.asl_prints.specs.Numbers.{Step, numbers_of, stepped_nodes}
 use Rattle.asl_formats.proofs.Shown.{same_shown, turn_shown}

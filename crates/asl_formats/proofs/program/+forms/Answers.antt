@@ -1,6 +1,6 @@
 use Rattle.std.proofs.Common.{refl, ap, ◌∙◌, arith}
 use Rattle.asl_tree.specs.View.{trees_of}
-use Rattle.asl_terms.specs.Plans.{plans_of}
+use Rattle.term_plans.specs.Plans.{plans_of}
 use Rattle.asl_formats.specs.Pass.{spread_all}
 use Rattle.asl_formats.specs.PlanPass as P
 use Rattle.asl_prints.proofs.Nodes.{call_smaller, form_smaller}

@@ -1,6 +1,6 @@
 use Rattle.std.proofs.Common.{◌≡◌, length}
 use Rattle.asl_tree.specs.View.{trees_of}
-use Rattle.asl_terms.specs.Plans.{join, plans_of}
+use Rattle.term_plans.specs.Plans.{join, plans_of}
 use Rattle.asl_prints.specs.Forms.{followed}
 use Rattle.asl_formats.specs.Pass.{backwards}
 use Rattle.asl_formats.specs.PlanPass.{backward_plans}

@@ -1,6 +1,6 @@
 use Rattle.std.proofs.Common.{ap, ◌∙◌, arith}
 use Rattle.asl_tree.specs.View.{trees_of}
-use Rattle.asl_terms.specs.Plans.{plans_of}
+use Rattle.term_plans.specs.Plans.{plans_of}
 use Rattle.asl_formats.proofs.Programs.{spread_begun, spread_next, spread_done}
 use Rattle.asl_formats.proofs.PlanPrograms as L
 use Rattle.asl_formats.proofs.program.spread_out.Goals as goal

@@ -1,6 +1,6 @@
 use Rattle.std.proofs.Common.{◌≡◌, length}
 use Rattle.asl_tree.specs.View.{trees_of}
-use Rattle.asl_terms.specs.Plans.{plans_of}
+use Rattle.term_plans.specs.Plans.{plans_of}
 use Rattle.asl_formats.specs.Pass.{backwards, spread_all}
 use Rattle.asl_formats.specs.PlanPass as P
 use Rattle.asl_formats.proofs.Programs.{spread_before}

@@ -1,5 +1,5 @@
 use Rattle.std.proofs.Common.{◌≡◌, ◌+◌, ◌*◌, take}
-use Rattle.asl_terms.specs.Plans.{plans_of}
+use Rattle.term_plans.specs.Plans.{plans_of}
 use Rattle.asl_prints.specs.Nodes.{nodes_size, term_size}
 use Rattle.asl_prints.specs.Numbers.{anew, next_behind, numbered, numbers_of}
 use Rattle.asl_formats.proofs.renew.+renew.Given as goal

@@ -1,6 +1,6 @@
 use Rattle.std.proofs.Common.{◌≡◌, ◌++◌, take, true}
 use Rattle.asl_tree.specs.View.{trees_of}
-use Rattle.asl_terms.specs.Plans.{join, plans_of}
+use Rattle.term_plans.specs.Plans.{join, plans_of}
 use Rattle.asl_formats.specs.Bare.{bare_all}
 use Rattle.asl_formats.specs.Plain.{are_plain}
 use Rattle.asl_prints.specs.Forms.{followed}

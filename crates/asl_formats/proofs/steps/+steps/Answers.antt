@@ -1,6 +1,6 @@
 use Rattle.std.proofs.Common.{◌≡◌, refl, sym, ◌∙◌, arith}
 use Rattle.asl_tree.specs.View.{trees_of}
-use Rattle.asl_terms.specs.Plans.{plans_of}
+use Rattle.term_plans.specs.Plans.{plans_of}
 use Rattle.asl_prints.specs.Numbers.{numbers_of}
 use Rattle.asl_prints.proofs.Nodes.{node_smaller, form_smaller}
 use Rattle.asl_formats.proofs.PlanSteps.{plans_stepped_none, plans_stepped_next, form_plan_stepped, other_plan_stepped}

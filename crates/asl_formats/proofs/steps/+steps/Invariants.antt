@@ -1,6 +1,6 @@
 use Rattle.std.proofs.Common.{◌≡◌, ◌+◌, ◌*◌, take, false, []}
 use Rattle.asl_tree.specs.View.{trees_of}
-use Rattle.asl_terms.specs.Plans.{plans_of}
+use Rattle.term_plans.specs.Plans.{plans_of}
 use Rattle.asl_formats.specs.Bare.{shown}
 use Rattle.asl_formats.specs.Plain.{MayRenew}
 use Rattle.asl_prints.specs.Forms.{stepped_all}

@@ -1,7 +1,7 @@
 use Rattle.std.proofs.Common.{◌≡◌, ◌++◌, take}
 use Rattle.asl_prints.specs.Numbers.{numbers_of}
 use Rattle.asl_tree.specs.View.{trees_of}
-use Rattle.asl_terms.specs.Plans.{join, plans_of}
+use Rattle.term_plans.specs.Plans.{join, plans_of}
 use Rattle.asl_prints.specs.Forms.{followed}
 use Rattle.asl_formats.proofs.steps.append.Given as goal
 

@@ -9,19 +9,11 @@ use Rattle.acpi_names.specs.Walked.{term_shape}
 use Rattle.acpi_names.proofs.Folds.{at_of}
 use Rattle.acpi_names.proofs.Trees.{call_smaller, form_smaller}
 use Rattle.asl_lower.specs.Kinds.{shape_kind}
-use Rattle.asl_lower.specs.Nodes.{nested, named_args}
-use Rattle.asl_lower.specs.Places.{lowered_places, nested_places}
-use Rattle.asl_lower.proofs.Forms.{all_nested}
+use Rattle.asl_lower.specs.Nodes.{named_all}
 use Rattle.asl_lower.proofs.Turns.{turns_none, turns_next, turn_smaller, front_only, form_is}
 use Rattle.asl_lower.proofs.Lowered.{IsLowered, each_lowered, call_named, form_named, other_named, kept_named, symbol_misfits, symbol_bare, assign_misfits, assign_by_misfits, operator_lowered, two_sizes, both_long, assign_lowered, store_lowered, compound_lowered}
-use Rattle.asl_lower.proofs.Places.{call_places, form_places_of, other_places, kept_places}
+use Rattle.asl_lower.proofs.Places.{call_stays, form_stays, kept_stays, symbol_stays}
 use Rattle.asl_lower.proofs.lower.+lower.Goals as goal
-
-pub lower_list-returns-clause-trees : goal.lower_list-returns-clause-trees
-lower_list-returns-clause-trees t c = c.in_ok-nest.ensures.trees ∙ ap nested c.in_ok-lower_each.ensures.trees ∙ all_nested (trees_of c.args.terms.now.items)
-
-pub lower_list-returns-clause-places : goal.lower_list-returns-clause-places
-lower_list-returns-clause-places t c = c.in_ok-nest.ensures.places ∙ c.in_ok-lower_each.ensures.places
 
 -- ---- terms each by itself
 
@@ -41,13 +33,13 @@ pub lower_each-returns-clause-trees : goal.lower_each-returns-clause-trees
 lower_each-returns-clause-trees t c =
     ap trees_of (front_only c.loop-node.node-items _ c.args.nodes.now.len (omega (arith, c.deref_mut-node-items.ensures.len, c.loop-node.auto.node-items)))
     ∙ (each_lowered c.deref_mut-node-items.result.now c.loop-node.node-items c.loop-node.node-index c.loop-node-test.false c.loop-node.invariant).0
-    ∙ ap (λ ns. named_args (trees_of ns)) c.deref_mut-node-items.ensures.value
+    ∙ ap (λ ns. named_all (trees_of ns)) c.deref_mut-node-items.ensures.value
 
 pub lower_each-returns-clause-places : goal.lower_each-returns-clause-places
 lower_each-returns-clause-places t c =
-    ap nested_places (front_only c.loop-node.node-items _ c.args.nodes.now.len (omega (arith, c.deref_mut-node-items.ensures.len, c.loop-node.auto.node-items)))
+    ap places_of (front_only c.loop-node.node-items _ c.args.nodes.now.len (omega (arith, c.deref_mut-node-items.ensures.len, c.loop-node.auto.node-items)))
     ∙ (each_lowered c.deref_mut-node-items.result.now c.loop-node.node-items c.loop-node.node-index c.loop-node-test.false c.loop-node.invariant).1
-    ∙ ap lowered_places c.deref_mut-node-items.ensures.value
+    ∙ ap places_of c.deref_mut-node-items.ensures.value
 
 -- ---- a term
 
@@ -60,13 +52,13 @@ lower_node-returns-in_ok-lower_each-in-Call-clause-tree t c =
     let rolled = V.rolls-Call c.in-Call.path c.in-Call.args in
     rw (c.in-Call.is ∙ sym rolled, D.out-roll-Term (D.Term-F.Call c.in-Call.path c.in-Call.args), rolled)
     (call_named (at_of c.args.node.now) (D.Call c.in-Call.path c.in-Call.args) c.in-Call.path c.in-Call.args c.lower_each.new.nodes refl
-    (c.in_ok-lower_each-in-Call.ensures.trees ∙ ap (λ (v : Vec Node Global). named_args (trees_of v.items)) c.in-Call.args-is))
+    (c.in_ok-lower_each-in-Call.ensures.trees ∙ ap (λ (v : Vec Node Global). named_all (trees_of v.items)) c.in-Call.args-is))
 
 pub lower_node-returns-in_ok-lower_each-in-Call-clause-places : goal.lower_node-returns-in_ok-lower_each-in-Call-clause-places
 lower_node-returns-in_ok-lower_each-in-Call-clause-places t c =
     let rolled = V.rolls-Call c.in-Call.path c.in-Call.args in
     rw (c.in-Call.is ∙ sym rolled, D.out-roll-Term (D.Term-F.Call c.in-Call.path c.in-Call.args), rolled)
-    (call_places c.args.node.now.place (D.Call c.in-Call.path c.in-Call.args) c.in-Call.path c.in-Call.args c.lower_each.new.nodes refl)
+    (ap (λ ps. c.args.node.now.place ∷ ps) (call_stays (D.Call c.in-Call.path c.in-Call.args) c.in-Call.path c.in-Call.args c.lower_each.new.nodes refl))
 
 pub lower_node-lower_form-requires : goal.lower_node-lower_form-requires
 lower_node-lower_form-requires t c =
@@ -77,14 +69,11 @@ pub lower_node-returns-in_ok-lower_form-in-Form : goal.lower_node-returns-in_ok-
 lower_node-returns-in_ok-lower_form-in-Form t c =
     let is = form_is c.args.node.now.term c.in-Form.op _ c.in-Form.args _ c.in-Form.body _ c.in-Form.op-is c.in-Form.args-is c.in-Form.body-is c.in-Form.is in record {
       tree = form_named (at_of c.args.node.now) c.args.node.now.term _ c.lower_form.new.op _ _ c.lower_form.new.args c.lower_form.new.body is (c.in_ok-lower_form-in-Form.ensures.tree (at_of c.args.node.now));
-      places = form_places_of c.args.node.now.place c.args.node.now.term _ c.lower_form.new.op _ _ c.lower_form.new.args c.lower_form.new.body is (c.in_ok-lower_form-in-Form.ensures.places c.args.node.now.place);
+      places = ap (λ ps. c.args.node.now.place ∷ ps) (form_stays c.args.node.now.term _ c.lower_form.new.op _ _ c.lower_form.new.args c.lower_form.new.body is c.in_ok-lower_form-in-Form.ensures.places);
     }
 
-pub lower_node-returns-in_default : goal.lower_node-returns-in_default
-lower_node-returns-in_default t c = record {
-  tree = other_named (at_of c.args.node.now) c.args.node.now.term c.in_default.not-Call c.in_default.not-Form;
-  places = other_places c.args.node.now.place c.args.node.now.term c.in_default.not-Form;
-}
+pub lower_node-returns-in_default-clause-tree : goal.lower_node-returns-in_default-clause-tree
+lower_node-returns-in_default-clause-tree t c = other_named (at_of c.args.node.now) c.args.node.now.term c.in_default.not-Call c.in_default.not-Form
 
 pub lower_form-returns-then-not-is_empty-clause-tree : goal.lower_form-returns-then-not-is_empty-clause-tree
 lower_form-returns-then-not-is_empty-clause-tree t c at =
@@ -95,10 +84,14 @@ lower_form-returns-in_ok-made-in-Symbolic-clause-tree t c at =
     let empty : length c.args.body.now.items ≡ 0 = grind (arith, c.is_empty.ensures, c.if-not-is_empty.false) in
     symbol_bare at c.args.op.now c.in_ok-made-in-Symbolic.made c.in-Symbolic.symbol (trees_of c.args.args.now.items) (trees_of c.lower_symbol.new.args.items) c.args.body.now.items c.in-Symbolic.is empty (c.in_ok-made-in-Symbolic.ensures.tree at)
 
+pub lower_form-returns-in_ok-made-in-Symbolic-clause-places : goal.lower_form-returns-in_ok-made-in-Symbolic-clause-places
+lower_form-returns-in_ok-made-in-Symbolic-clause-places t c =
+    symbol_stays c.args.op.now c.in_ok-made-in-Symbolic.made c.in-Symbolic.symbol (places_of c.args.body.now.items) (places_of c.args.body.now.items) c.in-Symbolic.is c.in_ok-made-in-Symbolic.ensures.alone
+
 pub lower_form-returns-in_ok-lower_body-in_default : goal.lower_form-returns-in_ok-lower_body-in_default
 lower_form-returns-in_ok-lower_body-in_default t c = record {
   tree = λ at. kept_named at c.args.op.now (trees_of c.args.args.now.items) (trees_of c.args.body.now.items) (trees_of c.lower_each.new.nodes.items) (trees_of c.lower_body.new.body.items) c.in_default.not-Symbolic c.in_ok-lower_each-in_default.ensures.trees c.in_ok-lower_body-in_default.ensures.trees;
-  places = λ here. kept_places here c.args.op.now (trees_of c.args.args.now.items) (trees_of c.lower_each.new.nodes.items) (places_of c.lower_body.new.body.items) (lowered_places c.args.body.now.items) c.in_ok-lower_each-in_default.ensures.trees c.in_ok-lower_body-in_default.ensures.places;
+  places = kept_stays c.args.op.now (places_of c.lower_body.new.body.items) (places_of c.args.body.now.items) c.in_ok-lower_body-in_default.ensures.places;
 }
 
 -- ---- symbols
@@ -149,7 +142,7 @@ lower_assignment-returns-in_ok-lower_each-in_default t c =
     let two : length c.args.args.now.items ≡ 2 = grind (arith, c.len.ensures, c.if-len-ne2.false, c.args.args.now.ok.0) in record {
       tree = λ at. store_lowered at c.args.args.now.items c.lower_each-in_default.new.nodes.items c.swap.new.self.items c.index.result.now c.index_mut.result.now c.give.new.node c.kind_of.result two c.index.ensures c.in_ok-lower_each-in_default.ensures.trees
           c.swap.ensures.items c.index_mut.ensures.value c.give.ensures c.kind_of.ensures c.in_default.not-Operated;
-      alone = λ args place inner. refl;
+      alone = refl;
     }
 
 pub lower_compound-returns-then-len-ne2-clause-tree : goal.lower_compound-returns-then-len-ne2-clause-tree

@@ -7,9 +7,6 @@ use Rattle.asl_lower.proofs.lower.+lower.Given as goal
 abbrev pub invariant-lower_each-loop-node : goal.invariant-lower_each-loop-node
 invariant-lower_each-loop-node l = Turns (λ k. IsLowered) l.initial.node-items l.node-items l.node-index
 
-abbrev pub decreases-lower_list : goal.decreases-lower_list
-decreases-lower_list l = 16 * (nodes_size l.terms.now.items) + 2
-
 abbrev pub decreases-lower_each : goal.decreases-lower_each
 decreases-lower_each l = 16 * (nodes_size l.nodes.now.items) + 1
 

@@ -7,7 +7,7 @@ use Rattle.asl_lower.proofs.lower.give.Goals as goal
 
 pub returns-in-Omitted : goal.returns-in-Omitted
 returns-in-Omitted c =
-    let at = at_of c.args.node.now in c.bare.ensures.tree at ∙ given_omitted at c.new.result c.new.ensures.items ∙ ap (λ t. given (tree_of at t)) (sym c.in-Omitted.is)
+    let at = at_of c.args.node.now in c.bare.ensures at ∙ given_omitted at c.new.result c.new.ensures.items ∙ ap (λ t. given (tree_of at t)) (sym c.in-Omitted.is)
 
 pub returns-in_default : goal.returns-in_default
 returns-in_default c = given_other (at_of c.args.node.now) c.args.node.now.term c.in_default.not-Omitted

@@ -3,7 +3,7 @@ use Rattle.asl_tree.specs.declared.term.Node.{Node}
 use Rattle.asl_tree.specs.declared.term.Term as D
 use Rattle.asl_tree.specs.declared.term.Term.TheVariants as V
 use Rattle.asl_tree.specs.View.{trees_of}
-use Rattle.asl_terms.specs.Plans.{plan_of, plans_of}
+use Rattle.term_plans.specs.Plans.{plan_of, plans_of}
 use Rattle.asl_numbers.specs.Numbers.{inside, nodes, numbered_all}
 use Rattle.asl_numbers.proofs.Loops.{none_numbered, inside_smaller, none_counted, none_trees, all_numbered, all_counted, node_numbered, front_only, needed, where_none}
 use Rattle.asl_numbers.proofs.Trees.{none_inside, alone_numbered, call_inside, call_numbered, call_plan, form_inside, form_numbered, form_plan}

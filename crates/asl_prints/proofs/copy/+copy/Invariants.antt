@@ -1,6 +1,6 @@
 use Rattle.std.proofs.Common.{◌≡◌, ◌+◌, ◌*◌, take}
 use Rattle.asl_tree.specs.View.{trees_of}
-use Rattle.asl_terms.specs.Plans.{plans_of}
+use Rattle.term_plans.specs.Plans.{plans_of}
 use Rattle.asl_prints.specs.Nodes.{nodes_size, term_size}
 use Rattle.asl_prints.specs.Numbers.{numbers_of}
 use Rattle.asl_prints.proofs.copy.+copy.Given as goal

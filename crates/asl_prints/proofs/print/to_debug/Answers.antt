@@ -1,5 +1,5 @@
 use Rattle.asl_tree.specs.View.{trees_of}
-use Rattle.asl_terms.specs.Plans.{plans_of}
+use Rattle.term_plans.specs.Plans.{plans_of}
 use Rattle.asl_prints.specs.Nodes.{node_tree}
 use Rattle.asl_prints.specs.PlanParts.{placed}
 use Rattle.asl_prints.proofs.Writes.{debug_printed}

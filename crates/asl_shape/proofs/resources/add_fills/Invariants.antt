@@ -1,5 +1,5 @@
 use Rattle.std.proofs.Common.{◌≡◌, ◌++◌, drop, length}
-use Rattle.asl_terms.specs.Plans.{plans_of}
+use Rattle.term_plans.specs.Plans.{plans_of}
 use Rattle.asl_shape.specs.Descriptors.{fills_of, names_from}
 use Rattle.asl_shape.proofs.resources.add_fills.Given as goal
 

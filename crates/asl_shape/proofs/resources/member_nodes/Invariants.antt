@@ -1,5 +1,5 @@
 use Rattle.std.proofs.Common.{◌≡◌, ◌++◌, drop}
-use Rattle.asl_terms.specs.Plans.{plans_of}
+use Rattle.term_plans.specs.Plans.{plans_of}
 use Rattle.asl_shape.specs.Descriptors.{member_nodes}
 use Rattle.asl_shape.proofs.resources.member_nodes.Given as goal
 

@@ -1,11 +1,13 @@
 use Rattle.std.proofs.Common.{◌≡◌, ◌<◌, ◌++◌, [], length, append-nil, slice_get, Some, ◌+◌, arith, drop, get_or, ap, sym, subst, ◌∙◌, OnOk}
 use Rattle.std.proofs.lemmas.Result.{on_ok_weaker}
 use Rattle.asl_syntax.specs.Nodes.{raw_in}
-use Rattle.asl_terms.specs.Terms.{Shaped, nowhere, one_plan, evaluated, checked, number_shape, text_shape}
+use Rattle.asl_terms.specs.Terms.{Shaped, evaluated, checked, number_shape, text_shape}
+use Rattle.term_plans.specs.Places.{nowhere}
+use Rattle.term_plans.specs.Plans.{one_plan}
 use Rattle.asl_terms.specs.AtRaw.{place_at}
 use Rattle.asl_shape.specs.AtRaw.{shape_at, bare_at, item_at, member_at, one_at, run_after_at, terms_at, default_after_at, cases_at}
 use Rattle.asl_shape.specs.AtRaw.{part_at, unit_at, due_behind_at}
-use Rattle.asl_terms.specs.Plans.{Plan, plans_of, join, last_plan, before_last, with_last}
+use Rattle.term_plans.specs.Plans.{Plan, plans_of, join, last_plan, before_last, with_last}
 use Rattle.asl_words.specs.declared.operator.Slot.TheVariants as slot
 use Rattle.asl_terms.proofs.Last.{some_behind, last_join, before_join}
 use Rattle.asl_shape.proofs.Shapes.{none_more, clean_faults, clean_made, read_there, bare_number, bare_text, bare_item, operand_faults, operand_made, list_faults, list_made, run_faults, run_made, case_faults, case_made, item_smaller, argument_some_faults, argument_some_made, left_faults, left_made, argument_faults, argument_made, got_some, got_none}
@@ -82,12 +84,12 @@ add_bare-add_item-requires t c = (grind (arith, c.decreases, item_smaller c.args
 
 pub add_argument-returns-in_ok-add-in-Some-clause-faults : goal.add_argument-returns-in_ok-add-in-Some-clause-faults
 add_argument-returns-in_ok-add-in-Some-clause-faults t c =
-    c.in_ok-add-in-Some.ensures.faults ∙ ap (λ q. c.args.work.now.faults.items ++ (shape_at q c.args.inside.now c.in-Some.raw.now).faults) c.slot_of.ensures
+    c.in_ok-add-in-Some.ensures.faults ∙ ap (λ q. c.args.work.now.faults.items ++ (shape_at q c.args.inside.now c.in-Some.raw.now).faults) c.slot_of-slot.ensures
     ∙ ap (λ ms. c.args.work.now.faults.items ++ ms) (sym (argument_some_faults c.args.parameter.now c.args.place.now c.args.inside.now (slice_get c.args.args.now c.args.i) c.in-Some.raw.now (got_some c.args.args.now c.args.i c.in-Some.raw.now c.in-Some.ensures.lookup.3.0 ∙ ap Some (sym c.in-Some.ensures.lookup.1))))
 
 pub add_argument-returns-in_ok-add-in-Some-clause-made : goal.add_argument-returns-in_ok-add-in-Some-clause-made
 add_argument-returns-in_ok-add-in-Some-clause-made t c =
-    c.in_ok-add-in-Some.ensures.made ∙ ap (λ q. join (plans_of c.args.nodes.now.items) (one_at c.args.place.now c.in-Some.raw.now (shape_at q c.args.inside.now c.in-Some.raw.now).made)) c.slot_of.ensures
+    c.in_ok-add-in-Some.ensures.made ∙ ap (λ q. join (plans_of c.args.nodes.now.items) (one_at c.args.place.now c.in-Some.raw.now (shape_at q c.args.inside.now c.in-Some.raw.now).made)) c.slot_of-slot.ensures
     ∙ ap (λ ps. join (plans_of c.args.nodes.now.items) ps) (sym (argument_some_made c.args.parameter.now c.args.place.now c.args.inside.now (slice_get c.args.args.now c.args.i) c.in-Some.raw.now (got_some c.args.args.now c.args.i c.in-Some.raw.now c.in-Some.ensures.lookup.3.0 ∙ ap Some (sym c.in-Some.ensures.lookup.1))))
 
 pub add_argument-returns-in_ok-add_missing-in-None-clause-faults : goal.add_argument-returns-in_ok-add_missing-in-None-clause-faults

@@ -1,6 +1,6 @@
 use Rattle.std.proofs.Common.{◌≡◌, ◌+◌, ◌*◌, ◌++◌, drop, None, false}
 use Rattle.asl_words.specs.declared.operator.Slot.TheVariants as slot
-use Rattle.asl_terms.specs.Plans.{plans_of, join}
+use Rattle.term_plans.specs.Plans.{plans_of, join}
 use Rattle.asl_syntax.specs.Sizes.{size_at, sizes_at, size_in_at}
 use Rattle.asl_shape.specs.Shapes.{begin}
 use Rattle.asl_shape.specs.AtRaw.{operands_at, arguments_in_at, members_at, terms_at, elements_at, cases_at}

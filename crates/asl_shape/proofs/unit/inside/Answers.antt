@@ -7,7 +7,7 @@ use Rattle.asl_shape.specs.declared.around.Around.{Around}
 use Rattle.asl_shape.specs.Around.{outside}
 use Rattle.asl_shape.specs.AtRaw.{arguments_in_at}
 use Rattle.asl_shape.specs.Forms.{args_in, terms_in}
-use Rattle.asl_terms.specs.Plans.{Plans, plans_of, join}
+use Rattle.term_plans.specs.Plans.{Plans, plans_of, join}
 use Rattle.asl_terms.specs.Terms.{Shaped}
 use Rattle.asl_shape.proofs.Units.{inside_told}
 use Rattle.asl_shape.proofs.unit.inside.Goals as goal

@@ -5,7 +5,7 @@ use Rattle.iasl_messages.specs.declared.message.Message.{Message}
 use Rattle.asl_tree.specs.View.{trees_of}
 use Rattle.aml_code.specs.Header.{fields_of}
 use Rattle.asl_shape.specs.Forms.{alone}
-use Rattle.asl_terms.specs.Plans.{plans_of}
+use Rattle.term_plans.specs.Plans.{plans_of}
 use Rattle.asl_numbers.specs.Numbers.{numbered_all}
 use Rattle.source_pieces.specs.Places.{core_places}
 use Rattle.descriptor_checks.specs.Resolved.{described_paths}

@@ -1,7 +1,7 @@
 use Rattle.std.proofs.Common.{Ok, refl, sym, subst}
 use Rattle.asl_tree.specs.View.{trees_of}
 use Rattle.aml_code.specs.Header.{fields_of}
-use Rattle.asl_terms.specs.Plans.{plans_of}
+use Rattle.term_plans.specs.Plans.{plans_of}
 use Rattle.source_pieces.specs.Places.{core_places}
 use Rattle.block_checks.specs.Findings.{IsNamed}
 use Rattle.block_checks.specs.Present.{IsPresenceOf}

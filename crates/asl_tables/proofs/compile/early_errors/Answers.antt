@@ -1,7 +1,7 @@
 use Rattle.std.proofs.Common.{arith}
 use Rattle.std.proofs.lemmas.Result.{IfOk-weaker}
 use Rattle.asl_tree.specs.View.{trees_of}
-use Rattle.asl_terms.specs.Plans.{plans_of}
+use Rattle.term_plans.specs.Plans.{plans_of}
 use Rattle.asl_numbers.specs.Numbers.{nodes}
 use Rattle.asl_tables.proofs.Early.{told_early}
 use Rattle.asl_tables.proofs.compile.early_errors.Goals as goal

@@ -1,5 +1,5 @@
 use Rattle.asl_tree.specs.View.{trees_of}
-use Rattle.asl_terms.specs.Plans.{plans_of}
+use Rattle.term_plans.specs.Plans.{plans_of}
 use Rattle.block_checks.specs.Told.{with_others}
 use Rattle.switch_checks.specs.Locals.{few_locals}
 use Rattle.asl_tables.proofs.Findings.{found_wrong, found_right}

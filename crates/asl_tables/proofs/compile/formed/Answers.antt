@@ -1,6 +1,6 @@
 use Rattle.std.proofs.Common.{◌≡◌, Bool, true, false, refl, sym, ◌∙◌}
 use Rattle.std.specs.Prelude.{not}
-use Rattle.asl_terms.specs.Plans.{plans_of}
+use Rattle.term_plans.specs.Plans.{plans_of}
 use Rattle.asl_formats.proofs.Formless.{same_plans, same_trees}
 use Rattle.asl_tables.proofs.Absent.{none_held}
 use Rattle.asl_tables.proofs.compile.formed.Goals as goal

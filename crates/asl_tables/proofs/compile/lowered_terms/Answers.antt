@@ -6,7 +6,7 @@ use Rattle.asl_fold.specs.Folds.{folded_where}
 use Rattle.asl_lower.specs.Nodes.{named_all}
 use Rattle.asl_prints.specs.Forms.{formed_all}
 use Rattle.hidden_locals.specs.Switches.{without_switches}
-use Rattle.asl_terms.specs.Plans.{plans_of}
+use Rattle.term_plans.specs.Plans.{plans_of}
 use Rattle.term_places.specs.Places.{places_of}
 use Rattle.source_pieces.specs.Places.{core_places}
 use Rattle.source_pieces.proofs.Planned.{places_planned}

@@ -8,7 +8,7 @@ use Rattle.asl_lower.specs.Nodes.{named_all}
 use Rattle.asl_fold.proofs.Asked.{where_shaped}
 use Rattle.asl_prints.specs.Forms.{formed_all}
 use Rattle.hidden_locals.specs.Switches.{without_switches}
-use Rattle.asl_terms.specs.Plans.{plans_of}
+use Rattle.term_plans.specs.Plans.{plans_of}
 use Rattle.copy_checks.specs.Copies.{too_many_copies, IsSizeOf}
 use Rattle.named_sessions.specs.Shaped.{AreShaped}
 use Rattle.source_pieces.specs.Places.{core_places}

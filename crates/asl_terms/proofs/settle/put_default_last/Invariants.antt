@@ -1,6 +1,6 @@
 use Rattle.std.proofs.Common.{◌≡◌, take, drop}
 use Rattle.asl_terms.specs.Terms.{default_last}
-use Rattle.asl_terms.specs.Plans.{plans_of, join}
+use Rattle.term_plans.specs.Plans.{plans_of, join}
 use Rattle.asl_terms.proofs.settle.put_default_last.Given as goal
 
 abbrev pub invariant-loop-at : goal.invariant-loop-at

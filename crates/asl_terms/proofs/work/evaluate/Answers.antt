@@ -1,10 +1,10 @@
 use Rattle.std.proofs.Common.{◌≡◌, ◌++◌, append-nil, ap, sym, subst, ◌∙◌, OnOk}
 use Rattle.std.proofs.lemmas.Result.{on_ok_weaker}
 use Rattle.asl_terms.specs.Terms.{refused}
-use Rattle.asl_terms.specs.Plans.{plans_of, with_last}
+use Rattle.term_plans.specs.Plans.{plans_of, with_last}
 use Rattle.asl_terms.proofs.Last.{last_stays}
 use Rattle.asl_terms.proofs.Outcomes.{come_stays, come_number, come_fault}
-use Rattle.asl_terms.proofs.Terms.{integer_term, omitted_term}
+use Rattle.term_plans.proofs.Terms.{integer_term, omitted_term}
 use Rattle.asl_terms.proofs.work.evaluate.Goals as goal
 
 pub returns-in-Stays-clause-faults : goal.returns-in-Stays-clause-faults

@@ -2,7 +2,7 @@ use Rattle.std.proofs.Common.{◌≡◌, sym, ap, ◌∙◌, subst}
 use Rattle.acpi_values.specs.Revisions.{width_of}
 use Rattle.acpi_values.specs.declared.width.Width.{Width}
 use Rattle.aml_code.specs.Header.{HeaderFields}
-use Rattle.asl_terms.specs.Plans.{Plans, plans_of}
+use Rattle.term_plans.specs.Plans.{Plans, plans_of}
 use Rattle.descriptor_checks.specs.Resolved.{checked_terms, resolved_terms}
 use Rattle.descriptor_checks.specs.Told.{checked_trees}
 use Rattle.region_checks.specs.Regions.{region_errors}

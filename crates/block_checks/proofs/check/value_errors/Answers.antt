@@ -1,5 +1,5 @@
 use Rattle.std.proofs.Common.{sym, ◌∙◌}
-use Rattle.asl_terms.specs.Plans.{plans_of}
+use Rattle.term_plans.specs.Plans.{plans_of}
 use Rattle.switch_checks.proofs.Absent.{none_repeated}
 use Rattle.block_checks.proofs.check.value_errors.Goals as goal
 

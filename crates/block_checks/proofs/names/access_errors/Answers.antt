@@ -1,5 +1,5 @@
 use Rattle.std.proofs.Common.{sym, ap, ◌∙◌}
-use Rattle.asl_terms.specs.Plans.{plans_of}
+use Rattle.term_plans.specs.Plans.{plans_of}
 use Rattle.region_checks.specs.Regions.{region_errors}
 use Rattle.region_checks.proofs.Absent.{none_told}
 use Rattle.block_checks.proofs.names.access_errors.Goals as goal

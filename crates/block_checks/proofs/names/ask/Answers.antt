@@ -1,6 +1,6 @@
 use Rattle.std.proofs.Common.{◌≡◌, false, ◌∙◌, sym, ap, subst}
 use Rattle.asl_tree.specs.View.{trees_of}
-use Rattle.asl_terms.specs.Plans.{plans_of}
+use Rattle.term_plans.specs.Plans.{plans_of}
 use Rattle.asl_numbers.specs.Numbers.{numbered_all}
 use Rattle.acpi_names.specs.Terms.{are_terms}
 use Rattle.name_checks.specs.Messages.{told_errors}

@@ -1,7 +1,7 @@
 use Rattle.std.proofs.Common.{[], refl, sym, ap, ◌∙◌, subst}
 use Rattle.asl_tree.specs.View.{trees_of}
 use Rattle.asl_meaning.specs.Declarations.{declarations, is_named, nothing_declared}
-use Rattle.asl_terms.specs.Plans.{plans_of}
+use Rattle.term_plans.specs.Plans.{plans_of}
 use Rattle.acpi_names.specs.Mentions.{after_all, block_mentions}
 use Rattle.acpi_names.specs.Parts.{Agrees}
 use Rattle.acpi_names.specs.Shown.{all_shown}

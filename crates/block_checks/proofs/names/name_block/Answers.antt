@@ -1,7 +1,7 @@
 use Rattle.std.proofs.Common.{Vec, Global, refl, sym, ap, ◌∙◌, subst}
 use Rattle.acpi_values.specs.Revisions.{width_of}
 use Rattle.asl_tree.specs.declared.term.Node.{Node}
-use Rattle.asl_terms.specs.Plans.{plans_of}
+use Rattle.term_plans.specs.Plans.{plans_of}
 use Rattle.asl_numbers.specs.Numbers.{numbered_all}
 use Rattle.named_sessions.specs.Shaped.{AreFormed, AreNamed}
 use Rattle.region_checks.specs.Regions.{region_errors}

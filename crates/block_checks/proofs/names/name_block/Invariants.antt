@@ -1,4 +1,4 @@
-use Rattle.asl_terms.specs.Plans.{plans_of}
+use Rattle.term_plans.specs.Plans.{plans_of}
 use Rattle.block_checks.proofs.names.name_block.Given as goal
 
 abbrev pub ghost-named_terms : goal.ghost-named_terms

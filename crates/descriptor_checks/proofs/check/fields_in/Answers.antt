@@ -4,7 +4,7 @@ use Rattle.acpi_names.specs.Tables.{Tabled}
 use Rattle.asl_tree.specs.View.{trees_of}
 use Rattle.asl_meaning.specs.Declarations.{declarations}
 use Rattle.asl_numbers.specs.Numbers.{numbered_all}
-use Rattle.asl_terms.specs.Plans.{plans_of}
+use Rattle.term_plans.specs.Plans.{plans_of}
 use Rattle.descriptor_checks.specs.Fields.{AreFields}
 use Rattle.descriptor_checks.specs.Resolved.{names_of, table_of}
 use Rattle.descriptor_checks.proofs.Naming.{mentions_are, names_are}

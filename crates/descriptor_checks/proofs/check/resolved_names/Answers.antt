@@ -1,6 +1,6 @@
 use Rattle.std.proofs.Common.{◌++◌, false, sym, ap, ◌∙◌, subst}
 use Rattle.asl_numbers.specs.Numbers.{numbered_all}
-use Rattle.asl_terms.specs.Plans.{plans_of}
+use Rattle.term_plans.specs.Plans.{plans_of}
 use Rattle.descriptor_fields.specs.Declaring.{declaring}
 use Rattle.descriptor_checks.specs.Fields.{AreFields}
 use Rattle.descriptor_fields.specs.Nodes.{SaysAt}

@@ -1,7 +1,7 @@
 use Rattle.std.proofs.Common.{refl, sym, subst}
 use Rattle.acpi_names.specs.Shown.{all_shown}
 use Rattle.asl_tree.specs.View.{trees_of}
-use Rattle.asl_terms.specs.Plans.{plans_of}
+use Rattle.term_plans.specs.Plans.{plans_of}
 use Rattle.descriptor_fields.specs.Nodes.{SaysAt, named_from}
 use Rattle.descriptor_checks.proofs.Naming.{declared_seen, mentions_are, table_is}
 use Rattle.descriptor_checks.proofs.described.described.Goals as goal

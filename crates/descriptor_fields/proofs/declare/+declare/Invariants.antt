@@ -1,6 +1,6 @@
 use Rattle.std.proofs.Common.{◌≡◌, ◌≤◌, ◌+◌, ◌*◌, length}
 use Rattle.std.specs.Prelude.{reverse}
-use Rattle.asl_terms.specs.Plans.{plan_of, plans_of, join}
+use Rattle.term_plans.specs.Plans.{plan_of, plans_of, join}
 use Rattle.asl_numbers.specs.Numbers.{inside, nodes}
 use Rattle.descriptor_fields.specs.Declaring.{declaring}
 use Rattle.descriptor_fields.proofs.declare.+declare.Given as goal

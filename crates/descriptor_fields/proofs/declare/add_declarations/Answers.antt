@@ -1,5 +1,5 @@
 use Rattle.std.proofs.Common.{ap, ◌∙◌, arith}
-use Rattle.asl_terms.specs.Plans.{plans_of, join}
+use Rattle.term_plans.specs.Plans.{plans_of, join}
 use Rattle.descriptor_fields.specs.Declaring.{alone}
 use Rattle.descriptor_fields.proofs.Walks.{begin_declared, next_declared, last_declared}
 use Rattle.descriptor_fields.proofs.declare.add_declarations.Goals as goal

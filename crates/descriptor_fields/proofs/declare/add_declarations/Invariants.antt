@@ -1,6 +1,6 @@
 use Rattle.std.proofs.Common.{◌≡◌, length}
 use Rattle.std.specs.Prelude.{reverse}
-use Rattle.asl_terms.specs.Plans.{plans_of, join}
+use Rattle.term_plans.specs.Plans.{plans_of, join}
 use Rattle.descriptor_fields.specs.Declaring.{declarations}
 use Rattle.descriptor_fields.proofs.declare.add_declarations.Given as goal
 

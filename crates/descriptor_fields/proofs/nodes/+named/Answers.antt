@@ -1,5 +1,5 @@
 use Rattle.std.proofs.Common.{◌++◌, [], ◌∷◌, None, append_assoc, refl, ap, ◌∙◌}
-use Rattle.asl_terms.specs.Plans.{plan_of}
+use Rattle.term_plans.specs.Plans.{plan_of}
 use Rattle.descriptor_fields.specs.Nodes.{entries_inside, entries_among}
 use Rattle.descriptor_fields.proofs.Walks.{next_in, last_in}
 use Rattle.descriptor_fields.proofs.nodes.+named.Goals as goal

@@ -1,5 +1,5 @@
 use Rattle.std.proofs.Common.{◌≡◌, ◌++◌, drop}
-use Rattle.asl_terms.specs.Plans.{plans_of}
+use Rattle.term_plans.specs.Plans.{plans_of}
 use Rattle.descriptor_fields.specs.Nodes.{entries_among}
 use Rattle.descriptor_fields.proofs.nodes.+named.Given as goal
 

@@ -1,5 +1,5 @@
 use Rattle.std.proofs.Common.{◌++◌, true, None, sym, ap, ◌∙◌, subst}
-use Rattle.asl_terms.specs.Plans.{plans_of}
+use Rattle.term_plans.specs.Plans.{plans_of}
 use Rattle.descriptor_fields.specs.Nodes.{SaysAt, named_from, entries_among}
 use Rattle.descriptor_fields.proofs.Said.{entries_say}
 use Rattle.descriptor_fields.proofs.nodes.named_nodes.Goals as goal

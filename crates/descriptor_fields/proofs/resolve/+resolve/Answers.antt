@@ -6,8 +6,8 @@ use Rattle.asl_tree.specs.declared.term.Node.{Node}
 use Rattle.asl_tree.specs.declared.term.Word.{Word}
 use Rattle.asl_tree.specs.declared.term.Term as D
 use Rattle.asl_tree.specs.declared.term.Term.TheVariants as V
-use Rattle.asl_terms.specs.Plans.{Plan, a_name, a_word, plan_of, plans_of}
-use Rattle.asl_terms.proofs.Terms.{name_term, word_term}
+use Rattle.term_plans.specs.Plans.{Plan, a_name, a_word, plan_of, plans_of}
+use Rattle.term_plans.proofs.Terms.{name_term, word_term}
 use Rattle.asl_numbers.specs.Numbers.{nodes}
 use Rattle.asl_numbers.proofs.Trees.{none_inside as inside_other, call_inside, form_inside}
 use Rattle.descriptor_fields.specs.Constants.{resolved_from, broken_from}

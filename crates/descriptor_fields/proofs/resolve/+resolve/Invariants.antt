@@ -1,5 +1,5 @@
 use Rattle.std.proofs.Common.{◌≡◌, ◌+◌, ◌++◌, ℕ, List, length, drop}
-use Rattle.asl_terms.specs.Plans.{plans_of}
+use Rattle.term_plans.specs.Plans.{plans_of}
 use Rattle.asl_numbers.specs.Numbers.{nodes}
 use Rattle.descriptor_fields.specs.Constants.{resolved_from, broken_from}
 use Rattle.descriptor_fields.specs.Nodes.{SaysAt}

@@ -1,6 +1,6 @@
 use Rattle.std.proofs.Common.{◌≡◌, ◌≤◌, ◌+◌, ◌*◌, length}
 use Rattle.std.specs.Prelude.{reverse}
-use Rattle.asl_terms.specs.Plans.{plan_of, plans_of, join}
+use Rattle.term_plans.specs.Plans.{plan_of, plans_of, join}
 use Rattle.asl_numbers.specs.Numbers.{inside, nodes}
 use Rattle.descriptor_fields.specs.Declaring.{stripped}
 use Rattle.descriptor_fields.proofs.strip.+strip.Given as goal

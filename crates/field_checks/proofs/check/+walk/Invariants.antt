@@ -1,5 +1,5 @@
 use Rattle.std.proofs.Common.{◌+◌, ◌*◌}
-use Rattle.asl_terms.specs.Plans.{plan_of, plans_of}
+use Rattle.term_plans.specs.Plans.{plan_of, plans_of}
 use Rattle.asl_numbers.specs.Numbers.{inside, nodes}
 use Rattle.field_checks.proofs.Walk.{Remains}
 use Rattle.field_checks.proofs.check.+walk.Given as goal

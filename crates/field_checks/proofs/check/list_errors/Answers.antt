@@ -1,8 +1,8 @@
 use Rattle.std.proofs.Common.{◌≡◌, ℕ, List, [], ◌++◌, refl, sym, ap, ◌∙◌, append-nil}
 use Rattle.iasl_messages.specs.declared.message.Message.{Message}
 use Rattle.iasl_messages.specs.declared.place.Place.{Place}
-use Rattle.asl_terms.specs.Plans.{plans_of}
-use Rattle.asl_terms.specs.Terms.{fault_at}
+use Rattle.term_plans.specs.Plans.{plans_of}
+use Rattle.term_plans.specs.Places.{fault_at}
 use Rattle.field_checks.specs.Lists.{list_errors}
 use Rattle.field_checks.proofs.Walk.{next_item, no_item_here, fault_here, list_end, told_here}
 use Rattle.field_checks.proofs.check.list_errors.Goals as goal

@@ -1,5 +1,5 @@
 use Rattle.std.proofs.Common.{◌≡◌, drop}
-use Rattle.asl_terms.specs.Plans.{plans_of}
+use Rattle.term_plans.specs.Plans.{plans_of}
 use Rattle.field_checks.specs.Lists.{list_errors}
 use Rattle.field_checks.proofs.check.list_errors.Given as goal
 

@@ -1,5 +1,5 @@
 use Rattle.std.proofs.Common.{◌≡◌, drop}
-use Rattle.asl_terms.specs.Plans.{plans_of}
+use Rattle.term_plans.specs.Plans.{plans_of}
 use Rattle.field_layout.specs.Segments.{first_said}
 use Rattle.field_checks.specs.Units.{unit_fault}
 use Rattle.field_checks.proofs.units.unit_fault.Given as goal

@@ -1,7 +1,7 @@
 use Rattle.std.proofs.Common.{◌≡◌, ◌+◌, length, sym, ap, ◌∙◌, refl, subst, arith}
 use Rattle.std.specs.Prelude.{◌||◌}
-use Rattle.asl_terms.specs.Plans.{a_call, a_form, plan_of, plans_of}
-use Rattle.asl_terms.proofs.Terms.{fill_term}
+use Rattle.term_plans.specs.Plans.{a_call, a_form, plan_of, plans_of}
+use Rattle.term_plans.proofs.Terms.{fill_term}
 use Rattle.asl_numbers.specs.Numbers.{inside}
 use Rattle.asl_numbers.proofs.Loops.{smaller}
 use Rattle.asl_numbers.proofs.Trees.{none_inside}

@@ -1,5 +1,5 @@
 use Rattle.std.proofs.Common.{◌+◌, ◌*◌}
-use Rattle.asl_terms.specs.Plans.{plans_of}
+use Rattle.term_plans.specs.Plans.{plans_of}
 use Rattle.asl_numbers.specs.Numbers.{nodes}
 use Rattle.form_presence.proofs.Walks.{IsSeen}
 use Rattle.form_presence.proofs.present.+look.Given as goal

@@ -1,6 +1,6 @@
 use Rattle.std.proofs.Common.{◌≡◌, Bool, true, false, refl, ◌∙◌}
 use Rattle.std.specs.Prelude.{◌||◌}
-use Rattle.asl_terms.specs.Plans.{plans_of}
+use Rattle.term_plans.specs.Plans.{plans_of}
 use Rattle.form_presence.specs.Kinds.{ASwitch, AField, AList, ForOrPrint, ADescriptor, are_in}
 use Rattle.form_presence.proofs.present.present_in.Goals as goal
 

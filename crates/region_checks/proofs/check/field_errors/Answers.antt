@@ -2,7 +2,7 @@ use Rattle.std.proofs.Common.{◌≡◌, ℕ, List, [], ◌∷◌, ◌++◌, ref
 use Rattle.std.specs.Prelude.{Some, None, if◌then◌else◌}
 use Rattle.iasl_messages.specs.declared.message.Message.{Message}
 use Rattle.iasl_messages.specs.declared.place.Place.{Place}
-use Rattle.asl_terms.specs.Terms.{fault_at}
+use Rattle.term_plans.specs.Places.{fault_at}
 use Rattle.region_checks.specs.Regions.{fault_told}
 use Rattle.region_checks.proofs.Joins.{right_nil}
 use Rattle.region_checks.proofs.check.field_errors.Goals as goal

@@ -1,7 +1,7 @@
 use Rattle.std.proofs.Common.{sym, ◌∙◌, subst}
 use Rattle.asl_tree.specs.View.{trees_of}
-use Rattle.asl_terms.specs.Plans.{plans_of}
-use Rattle.asl_terms.specs.Places.{AreTold}
+use Rattle.term_plans.specs.Plans.{plans_of}
+use Rattle.term_plans.specs.Places.{AreTold}
 use Rattle.region_checks.proofs.Places.{region_errors_within}
 use Rattle.region_checks.proofs.Walks.{block_seen_errors}
 use Rattle.region_checks.proofs.check.region_faults.Goals as goal

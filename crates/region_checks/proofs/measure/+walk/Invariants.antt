@@ -1,5 +1,5 @@
 use Rattle.std.proofs.Common.{◌+◌, ◌*◌}
-use Rattle.asl_terms.specs.Plans.{plans_of}
+use Rattle.term_plans.specs.Plans.{plans_of}
 use Rattle.asl_numbers.specs.Numbers.{nodes}
 use Rattle.region_checks.proofs.Walks.{Remains}
 use Rattle.region_checks.proofs.measure.+walk.Given as goal

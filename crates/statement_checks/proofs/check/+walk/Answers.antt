@@ -1,6 +1,6 @@
 use Rattle.std.proofs.Common.{◌≡◌, ◌++◌, length, sym, ap, ◌∙◌, refl, append-nil, arith}
-use Rattle.asl_terms.specs.Plans.{plan_of, plans_of}
-use Rattle.asl_terms.proofs.Terms.{arg_term}
+use Rattle.term_plans.specs.Plans.{plan_of, plans_of}
+use Rattle.term_plans.proofs.Terms.{arg_term}
 use Rattle.asl_numbers.proofs.Loops.{smaller}
 use Rattle.statement_checks.specs.Statements.{around_body, term_errors, argument_errors}
 use Rattle.statement_checks.proofs.Terms.{call_is, inside_call, inside_form, form_is, form_told, plain_told, none_behind, nothing_wrong}

@@ -1,5 +1,5 @@
 use Rattle.std.proofs.Common.{[], sym, ◌∙◌}
-use Rattle.asl_terms.specs.Plans.{plan_of, plans_of}
+use Rattle.term_plans.specs.Plans.{plan_of, plans_of}
 use Rattle.switch_checks.specs.Repeats.{first_members, case_values}
 use Rattle.switch_checks.specs.Values.{values_in}
 use Rattle.switch_checks.proofs.Terms.{case_members, other_members, no_members}

@@ -1,5 +1,5 @@
 use Rattle.std.proofs.Common.{[], sym}
-use Rattle.asl_terms.specs.Plans.{plan_of, plans_of}
+use Rattle.term_plans.specs.Plans.{plan_of, plans_of}
 use Rattle.switch_checks.specs.Repeats.{members_at, first_members}
 use Rattle.switch_checks.specs.Values.{values_in}
 use Rattle.switch_checks.proofs.Notes.{none_noted, noted_as, first_none, first_there}

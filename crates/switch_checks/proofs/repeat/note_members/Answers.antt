@@ -1,5 +1,5 @@
 use Rattle.std.proofs.Common.{sym, ◌∙◌}
-use Rattle.asl_terms.specs.Plans.{plan_of, plans_of}
+use Rattle.term_plans.specs.Plans.{plan_of, plans_of}
 use Rattle.switch_checks.specs.Repeats.{found_in, value_at, members_at}
 use Rattle.switch_checks.specs.Values.{values_in}
 use Rattle.switch_checks.proofs.Terms.{package_members, form_alone_members, alone_members}

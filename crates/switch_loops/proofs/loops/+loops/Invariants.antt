@@ -2,11 +2,11 @@ use Rattle.std.proofs.Common.{◌≡◌, ◌≤◌, ◌+◌, ◌*◌, ◌++◌, 
 use Rattle.asl_tree.specs.View.{trees_of}
 use Rattle.acpi_names.specs.Parts.{nodes_size, term_size}
 use Rattle.asl_lower.specs.Nests.{backwards}
-use Rattle.hidden_locals.specs.Switches.{links, default_link}
-use Rattle.asl_lower.specs.Places.{lowered_places}
+use Rattle.hidden_locals.specs.Switches.{opened, links, default_link}
+use Rattle.term_places.specs.Places.{places_of}
 use Rattle.asl_lower.proofs.Turns.{Turns}
 use Rattle.switch_loops.specs.Given.{AreGiven}
-use Rattle.switch_loops.specs.Links.{plan_as, looped_all, link_trees, link_places}
+use Rattle.switch_loops.specs.Links.{plan_as, looped_all, behind, otherwise_trees, otherwise_places}
 use Rattle.switch_loops.specs.Places.{looped_places, cases_places, first_default_places}
 use Rattle.switch_loops.proofs.InPlace.{IsLooped}
 use Rattle.switch_loops.proofs.Puts.{put_all, link_all}
@@ -18,7 +18,7 @@ invariant-loops_for-loop-node l = record {
   trees : AreGiven (trees_of l.fn.terms.items) → put_all l.flag l.values l.inside l.left.items (backwards l.made.items) ≡ looped_all l.flag l.values l.inside (trees_of l.fn.terms.items);
   given : AreGiven (trees_of l.fn.terms.items) → AreGiven (trees_of l.left.items);
   size : nodes_size l.left.items ≤ nodes_size l.fn.terms.items;
-  places : looped_places l.inside l.left.items ++ lowered_places (reverse l.made.items) ≡ looped_places l.inside l.fn.terms.items;
+  places : looped_places l.inside l.left.items ++ places_of (reverse l.made.items) ≡ looped_places l.inside l.fn.terms.items;
 }
 
 abbrev pub decreases-loops_for-loop-node : goal.decreases-loops_for-loop-node
@@ -26,10 +26,13 @@ decreases-loops_for-loop-node l = length l.left.items
 
 abbrev pub invariant-chain-loop-node : goal.invariant-chain-loop-node
 invariant-chain-loop-node l = record {
-  trees : AreGiven (trees_of l.fn.nodes.items) → link_all l.flag l.values l.left.items (link_trees l.chain) ≡ links (plan_as l.flag l.values) 1 (trees_of l.fn.nodes.items) (default_link (plan_as l.flag l.values) 1 (trees_of l.fn.nodes.items));
-  given : AreGiven (trees_of l.fn.nodes.items) → AreGiven (trees_of l.left.items);
-  size : nodes_size l.left.items ≤ nodes_size l.fn.nodes.items;
-  places : cases_places l.left.items (link_places l.chain) ≡ cases_places l.fn.nodes.items (first_default_places l.fn.nodes.items);
+  trees : AreGiven (trees_of l.fn.nodes.items) → behind (trees_of l.tests.items) (link_all l.flag l.values (reverse l.left.items) (default_link (plan_as l.flag l.values) 1 (trees_of l.fn.nodes.items)))
+      ≡ opened (links (plan_as l.flag l.values) 1 (trees_of l.fn.nodes.items) (default_link (plan_as l.flag l.values) 1 (trees_of l.fn.nodes.items)));
+  given : AreGiven (trees_of l.fn.nodes.items) → AreGiven (trees_of (reverse l.left.items));
+  size : nodes_size (reverse l.left.items) ≤ nodes_size l.fn.nodes.items;
+  places : places_of l.tests.items ++ cases_places (reverse l.left.items) ≡ cases_places l.fn.nodes.items;
+  otherwise : AreGiven (trees_of l.fn.nodes.items) → otherwise_trees l.default ≡ default_link (plan_as l.flag l.values) 1 (trees_of l.fn.nodes.items);
+  otherwise_place : otherwise_places l.default ≡ first_default_places l.fn.nodes.items;
 }
 
 abbrev pub decreases-chain-loop-node : goal.decreases-chain-loop-node
@@ -71,8 +74,8 @@ decreases-default_of l = 16 * (default_size l.default) + 5
 abbrev pub decreases-terms_of : goal.decreases-terms_of
 decreases-terms_of l = 16 * (term_size l.term) + 17
 
-abbrev pub decreases-case_before : goal.decreases-case_before
-decreases-case_before l = 16 * (term_size l.node.term) + 15
+abbrev pub decreases-put_case : goal.decreases-put_case
+decreases-put_case l = 16 * (term_size l.node.term) + 15
 
-abbrev pub decreases-form_before : goal.decreases-form_before
-decreases-form_before l = 16 * (nodes_size l.args.items + nodes_size l.body.items) + 20
+abbrev pub decreases-put_form : goal.decreases-put_form
+decreases-put_form l = 16 * (nodes_size l.args.items + nodes_size l.body.items) + 20

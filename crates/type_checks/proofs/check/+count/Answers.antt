@@ -1,5 +1,5 @@
 use Rattle.std.proofs.Common.{◌^◌, ◌≤◌, sym, ◌∙◌, refl, arith}
-use Rattle.asl_terms.specs.Plans.{plan_of, plans_of}
+use Rattle.term_plans.specs.Plans.{plan_of, plans_of}
 use Rattle.asl_numbers.specs.Numbers.{inside, nodes}
 use Rattle.asl_numbers.proofs.Loops.{smaller}
 use Rattle.type_checks.proofs.Terms.{inside_call, inside_form, count_at, count_next, count_done, count_none, where_err}

@@ -1,5 +1,5 @@
 use Rattle.std.proofs.Common.{◌≡◌, ◌+◌, ◌^◌, ◌<◌, ◌≤◌, suc, false, length, get_or, take, sym, ap, ◌∙◌, refl, arith}
-use Rattle.asl_terms.specs.Plans.{plan_of, plans_of}
+use Rattle.term_plans.specs.Plans.{plan_of, plans_of}
 use Rattle.asl_tree.specs.declared.term.Node.{Node}
 use Rattle.asl_numbers.specs.Numbers.{inside, nodes}
 use Rattle.asl_numbers.proofs.Loops.{smaller}

@@ -1,5 +1,5 @@
 use Rattle.std.proofs.Common.{◌≡◌, ◌+◌, ◌++◌, length, None, sym, ap, ◌∙◌, refl, append-nil, arith}
-use Rattle.asl_terms.specs.Plans.{plan_of}
+use Rattle.term_plans.specs.Plans.{plan_of}
 use Rattle.asl_numbers.specs.Numbers.{inside}
 use Rattle.asl_numbers.proofs.Loops.{smaller}
 use Rattle.type_checks.specs.Names.{listed}

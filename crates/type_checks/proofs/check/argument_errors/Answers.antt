@@ -1,5 +1,5 @@
 use Rattle.std.proofs.Common.{◌++◌, sym, ap, ◌∙◌}
-use Rattle.asl_terms.specs.Plans.{plan_of}
+use Rattle.term_plans.specs.Plans.{plan_of}
 use Rattle.type_checks.specs.Names.{listed}
 use Rattle.type_checks.specs.Types.{argument_errors}
 use Rattle.type_checks.proofs.AnyKind.{none_told}

@@ -1,6 +1,6 @@
 use Rattle.std.proofs.Common.{◌++◌, ap, ◌∙◌, None}
 use Rattle.std.proofs.Math.Path.{fun_ext}
-use Rattle.asl_terms.specs.Plans.{plans_of}
+use Rattle.term_plans.specs.Plans.{plans_of}
 use Rattle.type_checks.specs.Names.{listed}
 use Rattle.type_checks.specs.Types.{errors_of}
 use Rattle.type_checks.proofs.check.wrong_types.Goals as goal

@@ -1,6 +1,6 @@
 use Rattle.std.proofs.Common.{◌≡◌, ℕ, suc, ◌+◌, length, Some, sym, ap, ◌∙◌, arith}
-use Rattle.asl_terms.specs.Plans.{plan_of}
-use Rattle.asl_terms.proofs.Terms.{text_term, fill_term}
+use Rattle.term_plans.specs.Plans.{plan_of}
+use Rattle.term_plans.proofs.Terms.{text_term, fill_term}
 use Rattle.type_checks.specs.Sizes.{bytes_alone}
 use Rattle.type_checks.proofs.Listing.{no_bytes_alone}
 use Rattle.type_checks.proofs.size.bytes_alone.Goals as goal

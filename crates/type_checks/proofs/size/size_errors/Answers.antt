@@ -1,5 +1,5 @@
 use Rattle.std.proofs.Common.{◌++◌, sym, ap, ◌∙◌, append-nil}
-use Rattle.asl_terms.specs.Plans.{plans_of, plan_at, constant_of}
+use Rattle.term_plans.specs.Plans.{plans_of, plan_at, constant_of}
 use Rattle.type_checks.specs.Sizes.{is_below, told}
 use Rattle.type_checks.proofs.Listing.{below_none}
 use Rattle.type_checks.proofs.size.size_errors.Goals as goal

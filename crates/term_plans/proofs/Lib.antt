@@ -1,0 +1,4 @@
+pub mod Plans
+pub mod Terms
+pub mod Lists
+pub mod Constants
