@@ -104,11 +104,12 @@ by_one n asked word setting words settings found is e go =
 may_come : (asked : Asked) (key : Key) (value : List ℕ) (next : Asked) → with_setting asked (with_value key value) ≡ Some next → may_open asked key ≡ true
 may_come asked key.Prefix value next e = by_test (is_some asked.prefix) e
   where
-    by_test : (b : Bool) → (if b then None else Some (record { file = asked.file; prefix = Some value; directories = asked.directories; definitions = asked.definitions; only = asked.only; enabled = asked.enabled; switches = asked.switches })) ≡ Some next → not b ≡ true
+    by_test : (b : Bool) → (if b then None else Some (record { file = asked.file; prefix = Some value; directories = asked.directories; definitions = asked.definitions; only = asked.only; enabled = asked.enabled; switches = asked.switches; ignored = asked.ignored })) ≡ Some next → not b ≡ true
     by_test true k = absurd cc
     by_test false k = refl
 may_come asked key.Directory value next e = refl
 may_come asked key.Definition value next e = refl
+may_come asked key.Message value next e = refl
 
 by_two : (n : ℕ) (asked : Asked) (key : Key) (word value : List ℕ) (words : List (List ℕ)) (settings : List Setting) (found : Asked) → word_of word ≡ Opens key → after asked (with_value key value ∷ settings) ≡ Some found
     → ((next : Asked) → after next settings ≡ Some found → asked_from (suc (suc n)) (record { asked = next; waiting = None }) words ≡ Ok (as_asked found)) → asked_from n (record { asked = asked; waiting = None }) (word ∷ value ∷ words) ≡ Ok (as_asked found)

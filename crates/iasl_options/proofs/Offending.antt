@@ -29,22 +29,24 @@ CanGoOn behind = CanWait behind.waiting behind.asked.prefix
 Hope : ℕ → Behind → List (List ℕ) → Type 0
 Hope n behind words = (more : List (List ℕ)) × (asked : Asked) × (asked_from n behind (words ++ more) ≡ Ok asked)
 
-hope_at : (n : ℕ) (file prefix : Option (List ℕ)) (directories : List (List ℕ)) (definitions : List Define) (only enabled : Bool) (switches : Switches) (waiting : Option Key) → CanWait waiting prefix
-    → (more : List (List ℕ)) × (asked : Asked) × (asked_from n (record { asked = made file prefix directories definitions only enabled switches; waiting = waiting }) more ≡ Ok asked)
-hope_at n None prefix directories definitions only enabled switches None h = (codes "t" ∷ [], _, refl)
-hope_at n (Some file) prefix directories definitions only enabled switches None h = ([], _, refl)
-hope_at n None (Some prefix) directories definitions only enabled switches (Some key.Prefix) h = absurd h
-hope_at n (Some file) (Some prefix) directories definitions only enabled switches (Some key.Prefix) h = absurd h
-hope_at n None None directories definitions only enabled switches (Some key.Prefix) h = ([] ∷ codes "t" ∷ [], _, refl)
-hope_at n (Some file) None directories definitions only enabled switches (Some key.Prefix) h = ([] ∷ [], _, refl)
-hope_at n None prefix directories definitions only enabled switches (Some key.Directory) h = ([] ∷ codes "t" ∷ [], _, refl)
-hope_at n (Some file) prefix directories definitions only enabled switches (Some key.Directory) h = ([] ∷ [], _, refl)
-hope_at n None prefix directories definitions only enabled switches (Some key.Definition) h = ([] ∷ codes "t" ∷ [], _, refl)
-hope_at n (Some file) prefix directories definitions only enabled switches (Some key.Definition) h = ([] ∷ [], _, refl)
+hope_at : (n : ℕ) (file prefix : Option (List ℕ)) (directories : List (List ℕ)) (definitions : List Define) (only enabled : Bool) (switches : Switches) (ignored : List (List ℕ)) (waiting : Option Key) → CanWait waiting prefix
+    → (more : List (List ℕ)) × (asked : Asked) × (asked_from n (record { asked = made file prefix directories definitions only enabled switches ignored; waiting = waiting }) more ≡ Ok asked)
+hope_at n None prefix directories definitions only enabled switches ignored None h = (codes "t" ∷ [], _, refl)
+hope_at n (Some file) prefix directories definitions only enabled switches ignored None h = ([], _, refl)
+hope_at n None (Some prefix) directories definitions only enabled switches ignored (Some key.Prefix) h = absurd h
+hope_at n (Some file) (Some prefix) directories definitions only enabled switches ignored (Some key.Prefix) h = absurd h
+hope_at n None None directories definitions only enabled switches ignored (Some key.Prefix) h = ([] ∷ codes "t" ∷ [], _, refl)
+hope_at n (Some file) None directories definitions only enabled switches ignored (Some key.Prefix) h = ([] ∷ [], _, refl)
+hope_at n None prefix directories definitions only enabled switches ignored (Some key.Directory) h = ([] ∷ codes "t" ∷ [], _, refl)
+hope_at n (Some file) prefix directories definitions only enabled switches ignored (Some key.Directory) h = ([] ∷ [], _, refl)
+hope_at n None prefix directories definitions only enabled switches ignored (Some key.Definition) h = ([] ∷ codes "t" ∷ [], _, refl)
+hope_at n (Some file) prefix directories definitions only enabled switches ignored (Some key.Definition) h = ([] ∷ [], _, refl)
+hope_at n None prefix directories definitions only enabled switches ignored (Some key.Message) h = ([] ∷ codes "t" ∷ [], _, refl)
+hope_at n (Some file) prefix directories definitions only enabled switches ignored (Some key.Message) h = ([] ∷ [], _, refl)
 
 hope_here : (n : ℕ) (behind : Behind) → CanGoOn behind → Hope n behind []
 unfolding Hope
-hope_here n behind h = hope_at n behind.asked.file behind.asked.prefix behind.asked.directories behind.asked.definitions behind.asked.only behind.asked.enabled behind.asked.switches behind.waiting h
+hope_here n behind h = hope_at n behind.asked.file behind.asked.prefix behind.asked.directories behind.asked.definitions behind.asked.only behind.asked.enabled behind.asked.switches behind.asked.ignored behind.waiting h
 
 -- a word that does not spoil those before it leaves what can go on
 settled_goes_on : (o : Option Asked) (next : Behind) → settled o ≡ Some next → CanGoOn next
@@ -63,6 +65,9 @@ opened_goes_on asked key.Prefix next e = by_prefix asked.prefix refl e
     by_prefix (Some prefix) is k = absurd cc
 opened_goes_on asked key.Directory next e =
     let same : record { asked = asked; waiting = Some key.Directory } ≡ next = cc in
+    subst CanGoOn same tt
+opened_goes_on asked key.Message next e =
+    let same : record { asked = asked; waiting = Some key.Message } ≡ next = cc in
     subst CanGoOn same tt
 opened_goes_on asked key.Definition next e =
     let same : record { asked = asked; waiting = Some key.Definition } ≡ next = cc in

@@ -12,7 +12,7 @@ use Rattle.iasl_options.specs.declared.words.Key.{Key}
 use Rattle.iasl_options.specs.declared.words.Key.TheVariants as key
 use Rattle.iasl_options.specs.declared.switches.Switch.{Switch}
 use Rattle.iasl_options.specs.Switches.{switch_of}
-use Rattle.iasl_options.specs.Words.{Setting, PreprocessOnly, NoPreprocessor, Turned, Prefix, Directory, Definition, File, Word, Asks, Opens, Unknown, with_value, valued, behind, begins_with_hyphen, or_turned, or_valued, word_of}
+use Rattle.iasl_options.specs.Words.{Setting, PreprocessOnly, NoPreprocessor, Turned, Prefix, Directory, Definition, Ignored, File, Word, Asks, Opens, Unknown, with_value, valued, behind, begins_with_hyphen, or_turned, or_valued, word_of}
 use Rattle.iasl_options.specs.Asking.{Asked, Behind, with_setting, may_open, settled, behind_word, one_more, at_end, or_spoilt, asked_from, begin, asked_by, front_of}
 use Rattle.iasl_options.specs.Shown.{IsText, AreTexts, asked_of, Answers}
 use Rattle.iasl_options.proofs.Extensions.{stem_text}
@@ -30,6 +30,7 @@ value_text : (key : Key) (value : List ℕ) → IsUtf8 value → SettingIsText (
 value_text key.Prefix value u = u
 value_text key.Directory value u = tt
 value_text key.Definition value u = tt
+value_text key.Message value u = tt
 
 valued_text : (key : Key) (value : List ℕ) → IsUtf8 value → WordIsText (valued key value)
 valued_text key [] u = tt
@@ -53,6 +54,12 @@ or_text : (key : Key) (o : Option (List ℕ)) (rest : Word) → IsText o → Wor
 or_text key None rest u r = r
 or_text key (Some value) rest u r = valued_text key value u
 
+-- the number of a message need not be text
+message_text : (o : Option (List ℕ)) (rest : Word) → WordIsText rest → WordIsText (or_valued key.Message o rest)
+message_text None rest r = r
+message_text (Some []) rest r = tt
+message_text (Some (c ∷ cs)) rest r = tt
+
 cond_text : (c : Bool) (w v : Word) → WordIsText w → WordIsText v → WordIsText (cond c w v)
 cond_text true w v h k = h
 cond_text false w v h k = k
@@ -69,7 +76,8 @@ word_text word u =
     or_text key.Prefix (behind (codes "-p") word) _ (behind_mark 45 112 word (omega arith) u) (
     or_text key.Directory (behind (codes "-I") word) _ (behind_mark 45 73 word (omega arith) u) (
     or_text key.Definition (behind (codes "-D") word) _ (behind_mark 45 68 word (omega arith) u) (
-    cond_text (begins_with_hyphen word) Unknown (Asks (File word)) tt u))))))
+    message_text (behind (codes "-vw") word) _ (
+    cond_text (begins_with_hyphen word) Unknown (Asks (File word)) tt u)))))))
 
 abbrev AskedText : Asked → Type 0
 AskedText asked = IsText asked.file × IsText asked.prefix
@@ -97,6 +105,7 @@ set_text asked (Definition name text) h u = h
 set_text asked PreprocessOnly h u = when_text asked.enabled _ h
 set_text asked NoPreprocessor h u = unless_text asked.only _ h
 set_text asked (Turned switch) h u = h
+set_text asked (Ignored number) h u = h
 set_text asked (File []) h u = tt
 set_text asked (File (c ∷ cs)) h u = unless_text (is_some asked.file) _ (u, h.1)
 

@@ -71,6 +71,7 @@ cut_equals value = subst (CutAt value) (sym (equals_front value)) (cut_front val
 pub value_is : (key : Key) (value : List ℕ) → IsValue key value (with_value key value)
 value_is key.Prefix value = refl
 value_is key.Directory value = refl
+value_is key.Message value = refl
 value_is key.Definition value = (take (equals_at value) value, drop (equals_at value + 1) value, cut_equals value, refl)
 
 neither : (b c : Bool) → (b || c) ≡ false → (b ≡ false) × (c ≡ false)
@@ -107,6 +108,7 @@ cut_only value name text h = by_form h.1
 pub value_only : (key : Key) (value : List ℕ) (setting : Setting) → IsValue key value setting → setting ≡ with_value key value
 value_only key.Prefix value setting h = h
 value_only key.Directory value setting h = h
+value_only key.Message value setting h = h
 value_only key.Definition value setting h =
     let same = cut_only value h.0 h.1 h.2 in
     h.3 ∙ sym (ap (λ name. Definition name (drop (equals_at value + 1) value)) same.0 ∙ ap (λ text. Definition h.0 text) same.1)

@@ -1,5 +1,5 @@
 -- What a word by itself is, and what words ask for by it.
-use Rattle.std.proofs.Common.{◌≡◌, ℕ, Bool, true, false, cond, List, [], ◌∷◌, ◌++◌, take, drop, codes, Option, Some, None, refl, sym, ap, ◌∙◌}
+use Rattle.std.proofs.Common.{◌≡◌, ℕ, Bool, true, false, cond, List, [], ◌∷◌, ◌++◌, take, drop, length, codes, Option, Some, None, refl, sym, ap, ◌∙◌}
 use Rattle.std.specs.Prelude.{◌==◌}
 use Rattle.std.specs.Str.{bytes_eq}
 use Rattle.std.proofs.lemmas.Slice.Eq.{bytes_eq-Decides}
@@ -27,15 +27,15 @@ valued_form : (key : Key) (word value : List ℕ) → word ≡ mark key ++ value
 valued_form key word [] e n = e ∙ n
 valued_form key word (c ∷ cs) e n = λ words settings h. rest_of_word key c cs word (with_value key (c ∷ cs)) words settings e (value_is key (c ∷ cs)) h
 
-marked_form : (key : Key) (a b : ℕ) (word : List ℕ) (rest : Word) → mark key ≡ a ∷ b ∷ [] → Form word rest → Form word (or_valued key (behind (a ∷ b ∷ []) word) rest)
-marked_form key a b word rest is h = by_mark (bytes_eq (take 2 word) (a ∷ b ∷ [])) refl
+marked_form : (key : Key) (word : List ℕ) (rest : Word) → mark key ++ [] ≡ mark key → Form word rest → Form word (or_valued key (behind (mark key) word) rest)
+marked_form key word rest none h = by_mark (bytes_eq (take (length (mark key)) word) (mark key)) refl
   where
-    by_mark : (c : Bool) → bytes_eq (take 2 word) (a ∷ b ∷ []) ≡ c → Form word (or_valued key (cond c (Some (drop 2 word)) None) rest)
+    by_mark : (c : Bool) → bytes_eq (take (length (mark key)) word) (mark key) ≡ c → Form word (or_valued key (cond c (Some (drop (length (mark key)) word)) None) rest)
     by_mark false e = h
     by_mark true e =
-        let front : take 2 word ≡ a ∷ b ∷ [] = (bytes_eq-Decides (take 2 word) (a ∷ b ∷ [])).0 e in
-        let whole : word ≡ a ∷ b ∷ drop 2 word = sym (take-append-drop 2 word) ∙ ap (λ xs. xs ++ drop 2 word) front in
-        valued_form key word (drop 2 word) (whole ∙ ap (λ xs. xs ++ drop 2 word) (sym is)) (ap (λ xs. xs ++ []) is ∙ sym is)
+        let front : take (length (mark key)) word ≡ mark key = (bytes_eq-Decides (take (length (mark key)) word) (mark key)).0 e in
+        let whole : word ≡ mark key ++ drop (length (mark key)) word = sym (take-append-drop (length (mark key)) word) ∙ ap (λ xs. xs ++ drop (length (mark key)) word) front in
+        valued_form key word (drop (length (mark key)) word) whole none
 
 -- a switch that is found is written so
 abbrev IsSwitch : List ℕ → Option Switch → Type 0
@@ -62,10 +62,13 @@ switch_is word =
     or_is word switch.Unoptimised _ (
     or_is word switch.WrappedExternals _ (
     or_is word switch.Acpica _ (
+    or_is word switch.NoRemarks _ (
+    or_is word switch.ErrorsAlone _ (
+    or_is word switch.NoMessages _ (
     or_is word switch.NoSignon _ (
     or_is word switch.FirstLevel _ (
     or_is word switch.SecondLevel _ (
-    or_is word switch.ThirdLevel _ tt))))))))))))))
+    or_is word switch.ThirdLevel _ tt)))))))))))))))))
 
 turned_form : (word : List ℕ) (found : Option Switch) (rest : Word) → IsSwitch word found → Form word rest → Form word (or_turned found rest)
 turned_form word None rest is h = h
@@ -76,10 +79,11 @@ form_of word =
     cond_form word (bytes_eq word (codes "-P")) _ _ (λ e words settings h. preprocess_only word words settings ((bytes_eq-Decides word (codes "-P")).0 e) h) (λ _.
     cond_form word (bytes_eq word (codes "-Pn")) _ _ (λ e words settings h. no_preprocessor word words settings ((bytes_eq-Decides word (codes "-Pn")).0 e) h) (λ _.
     turned_form word (switch_of word) _ (switch_is word) (
-    marked_form key.Prefix 45 112 word _ refl (
-    marked_form key.Directory 45 73 word _ refl (
-    marked_form key.Definition 45 68 word _ refl (
-    cond_form word (begins_with_hyphen word) Unknown (Asks (File word)) (λ _. tt) (λ e words settings h. source_file word words settings e h)))))))
+    marked_form key.Prefix word _ refl (
+    marked_form key.Directory word _ refl (
+    marked_form key.Definition word _ refl (
+    marked_form key.Message word _ refl (
+    cond_form word (begins_with_hyphen word) Unknown (Asks (File word)) (λ _. tt) (λ e words settings h. source_file word words settings e h))))))))
 
 -- ---- the other way
 
@@ -105,16 +109,21 @@ word_switch switch.NoSignon = refl
 word_switch switch.FirstLevel = refl
 word_switch switch.SecondLevel = refl
 word_switch switch.ThirdLevel = refl
+word_switch switch.NoRemarks = refl
+word_switch switch.ErrorsAlone = refl
+word_switch switch.NoMessages = refl
 
 pub word_opens : (key : Key) → word_of (mark key) ≡ Opens key
 word_opens key.Prefix = refl
 word_opens key.Directory = refl
 word_opens key.Definition = refl
+word_opens key.Message = refl
 
 pub word_with_value : (key : Key) (c : ℕ) (cs : List ℕ) → word_of (mark key ++ c ∷ cs) ≡ Asks (with_value key (c ∷ cs))
 word_with_value key.Prefix c cs = refl
 word_with_value key.Directory c cs = refl
 word_with_value key.Definition c cs = refl
+word_with_value key.Message c cs = refl
 
 no_hyphen : (c : ℕ) (cs : List ℕ) → (c == 45) ≡ false → word_of (c ∷ cs) ≡ Asks (File (c ∷ cs))
 no_hyphen c cs e = rw e refl

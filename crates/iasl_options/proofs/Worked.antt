@@ -8,23 +8,28 @@ use Rattle.iasl_options.specs.CommandLine.{AskFor, no_word, rest_of_word, next_w
 use Rattle.iasl_options.specs.Names.{output_name}
 
 -- a definition, and a file
-one_definition : asked_by (codes "-D" ∷ codes "A=7" ∷ codes "t.asl" ∷ []) ≡ Ok (record { file = Some (codes "t.asl"); prefix = None; directories = []; definitions = define_of (codes "A") (codes "7") ∷ []; only = false; enabled = true; switches = no_switch })
+one_definition : asked_by (codes "-D" ∷ codes "A=7" ∷ codes "t.asl" ∷ []) ≡ Ok (record { file = Some (codes "t.asl"); prefix = None; directories = []; definitions = define_of (codes "A") (codes "7") ∷ []; only = false; enabled = true; switches = no_switch; ignored = [] })
 one_definition = refl
 
 -- a text with `=`, an option behind the file, and a value that looks like an option
 all_options : asked_by (codes "-DB=C=D" ∷ codes "t" ∷ codes "-P" ∷ codes "-I" ∷ codes "-P" ∷ codes "-pout" ∷ codes "-DE" ∷ [])
-    ≡ Ok (record { file = Some (codes "t"); prefix = Some (codes "out"); directories = codes "-P" ∷ []; definitions = define_of (codes "B") (codes "C=D") ∷ define_of (codes "E") [] ∷ []; only = true; enabled = true; switches = no_switch })
+    ≡ Ok (record { file = Some (codes "t"); prefix = Some (codes "out"); directories = codes "-P" ∷ []; definitions = define_of (codes "B") (codes "C=D") ∷ define_of (codes "E") [] ∷ []; only = true; enabled = true; switches = no_switch; ignored = [] })
 all_options = refl
 
 -- short messages and no warnings, one of them asked for twice
 quiet_options : asked_by (codes "-we" ∷ codes "t" ∷ codes "-vi" ∷ codes "-we" ∷ [])
-    ≡ Ok (record { file = Some (codes "t"); prefix = None; directories = []; definitions = []; only = false; enabled = true; switches = record { brief = true; strict = true; c_text = false; listing = false; generic = false; fold = true; short = true; shorten = true; wrap = false; acpica = false } })
+    ≡ Ok (record { file = Some (codes "t"); prefix = None; directories = []; definitions = []; only = false; enabled = true; switches = record { brief = true; strict = true; c_text = false; listing = false; generic = false; fold = true; short = true; shorten = true; wrap = false; acpica = false; remarks = true; warnings = true; errors = true }; ignored = [] })
 quiet_options = refl
 
 -- outputs as ACPICA's compiler names them: the prefix loses its extension
 acpica_options : asked_by (codes "-p" ∷ codes "build/dsdt.aml" ∷ codes "--acpica" ∷ codes "-vs" ∷ codes "t" ∷ [])
-    ≡ Ok (record { file = Some (codes "t"); prefix = Some (codes "build/dsdt"); directories = []; definitions = []; only = false; enabled = true; switches = record { brief = false; strict = false; c_text = false; listing = false; generic = false; fold = true; short = true; shorten = true; wrap = true; acpica = true } })
+    ≡ Ok (record { file = Some (codes "t"); prefix = Some (codes "build/dsdt"); directories = []; definitions = []; only = false; enabled = true; switches = record { brief = false; strict = false; c_text = false; listing = false; generic = false; fold = true; short = true; shorten = true; wrap = true; acpica = true; remarks = true; warnings = true; errors = true }; ignored = [] })
 acpica_options = refl
+
+-- messages that are not told, two of them by their numbers
+hidden_options : asked_by (codes "-vr" ∷ codes "-vw" ∷ codes "3003" ∷ codes "t" ∷ codes "-vw2001" ∷ [])
+    ≡ Ok (record { file = Some (codes "t"); prefix = None; directories = []; definitions = []; only = false; enabled = true; switches = record { brief = false; strict = false; c_text = false; listing = false; generic = false; fold = true; short = true; shorten = true; wrap = false; acpica = false; remarks = false; warnings = true; errors = true }; ignored = codes "3003" ∷ codes "2001" ∷ [] })
+hidden_options = refl
 
 -- the words that spoil others: a second prefix, `-Pn` behind `-P`, a second file, an unknown option; a value or a file is missing
 second_prefix : asked_by (codes "-p" ∷ codes "a" ∷ codes "-p" ∷ codes "b" ∷ codes "t" ∷ []) ≡ Err 2
@@ -58,7 +63,7 @@ forms = next_word key.Definition _ _ _ _ _ refl (codes "A", codes "7", (refl, in
 good : IsGood settings
 good = record { file = (116, _, refl); prefix = omega arith; preprocessor = refl }
 
-line : IsCommandLine words (record { file = Some (codes "t.asl"); prefix = Some (codes "out"); directories = []; definitions = define_of (codes "A") (codes "7") ∷ []; only = false; enabled = true; switches = no_switch })
+line : IsCommandLine words (record { file = Some (codes "t.asl"); prefix = Some (codes "out"); directories = []; definitions = define_of (codes "A") (codes "7") ∷ []; only = false; enabled = true; switches = no_switch; ignored = [] })
 line = (settings, forms, good, refl)
 
 -- names: the extension is replaced, a dot before a slash begins none, a prefix is whole

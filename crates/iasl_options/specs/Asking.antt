@@ -7,7 +7,7 @@ use Rattle.iasl_options.specs.declared.words.Key.TheVariants as key
 use Rattle.iasl_options.specs.declared.switches.Switches.{Switches}
 use Rattle.iasl_options.specs.Names.{stem_of}
 use Rattle.iasl_options.specs.Switches.{no_switch, with_switch}
-use Rattle.iasl_options.specs.Words.{Setting, PreprocessOnly, NoPreprocessor, Turned, Prefix, Directory, Definition, File, Word, Asks}
+use Rattle.iasl_options.specs.Words.{Setting, PreprocessOnly, NoPreprocessor, Turned, Prefix, Directory, Definition, Ignored, File, Word, Asks}
 use Rattle.iasl_options.specs.Words.{Opens, Unknown, with_value, word_of}
 
 -- what some first words ask for
@@ -19,9 +19,11 @@ pub record Asked : Type 0 where
   pub only : Bool
   pub enabled : Bool
   pub switches : Switches
+  -- the numbers of warnings and remarks that are neither told nor counted, as they are written
+  pub ignored : List (List ℕ)
 
 abbrev pub nothing : Asked
-nothing = record { file = None; prefix = None; directories = []; definitions = []; only = false; enabled = true; switches = no_switch }
+nothing = record { file = None; prefix = None; directories = []; definitions = []; only = false; enabled = true; switches = no_switch; ignored = [] }
 
 abbrev pub define_of : List ℕ → List ℕ → Define
 define_of name text = record { name = name; text = text }
@@ -41,6 +43,7 @@ with_setting asked (Prefix prefix) =
           asked.only;
       enabled = asked.enabled;
       switches = asked.switches;
+      ignored = asked.ignored;
     })
 with_setting asked (Directory directory) =
     Some
@@ -53,6 +56,7 @@ with_setting asked (Directory directory) =
       only = asked.only;
       enabled = asked.enabled;
       switches = asked.switches;
+      ignored = asked.ignored;
     })
 with_setting asked (Definition name text) =
     Some
@@ -65,6 +69,7 @@ with_setting asked (Definition name text) =
       only = asked.only;
       enabled = asked.enabled;
       switches = asked.switches;
+      ignored = asked.ignored;
     })
 with_setting asked PreprocessOnly =
     if asked.enabled then
@@ -78,6 +83,7 @@ with_setting asked PreprocessOnly =
           true;
       enabled = true;
       switches = asked.switches;
+      ignored = asked.ignored;
     }) else None
 with_setting asked NoPreprocessor =
     if asked.only then None else
@@ -91,6 +97,7 @@ with_setting asked NoPreprocessor =
           asked.only;
       enabled = false;
       switches = asked.switches;
+      ignored = asked.ignored;
     })
 with_setting asked (Turned switch) =
     Some
@@ -103,6 +110,20 @@ with_setting asked (Turned switch) =
           asked.only;
       enabled = asked.enabled;
       switches = with_switch asked.switches switch;
+      ignored = asked.ignored;
+    })
+with_setting asked (Ignored number) =
+    Some
+    (record {
+      file = asked.file;
+      prefix = asked.prefix;
+      directories = asked.directories;
+      definitions = asked.definitions;
+      only =
+          asked.only;
+      enabled = asked.enabled;
+      switches = asked.switches;
+      ignored = asked.ignored ++ number ∷ [];
     })
 with_setting asked (File []) = None
 with_setting asked (File (c ∷ cs)) =
@@ -117,6 +138,7 @@ with_setting asked (File (c ∷ cs)) =
           asked.only;
       enabled = asked.enabled;
       switches = asked.switches;
+      ignored = asked.ignored;
     })
 
 -- an option that waits for its value may stand here: none where its value may not come any more
@@ -159,6 +181,7 @@ as_asked asked = record {
   only = asked.only;
   enabled = asked.enabled;
   switches = asked.switches;
+  ignored = asked.ignored;
 }
 
 -- the words are used up: no option waits, and there is a file

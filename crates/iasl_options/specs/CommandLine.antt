@@ -9,8 +9,8 @@ use Rattle.iasl_options.specs.declared.words.Key.TheVariants as key
 use Rattle.iasl_options.specs.declared.switches.Switch.{Switch}
 use Rattle.iasl_options.specs.declared.switches.Switches.{Switches}
 use Rattle.iasl_options.specs.Switches.{switch_word, is_brief, is_strict, is_c_text, is_listing, is_generic, keeps_constants}
-use Rattle.iasl_options.specs.Switches.{keeps_integers, keeps_names, wraps_externals, is_acpica}
-use Rattle.iasl_options.specs.Words.{Setting, PreprocessOnly, NoPreprocessor, Turned, Prefix, Directory, Definition, File}
+use Rattle.iasl_options.specs.Switches.{keeps_integers, keeps_names, wraps_externals, is_acpica, hides_remarks, hides_warnings, hides_errors}
+use Rattle.iasl_options.specs.Words.{Setting, PreprocessOnly, NoPreprocessor, Turned, Prefix, Directory, Definition, Ignored, File}
 use Rattle.iasl_options.specs.Words.{begins_with_hyphen}
 use Rattle.iasl_options.specs.Asking.{Asked, define_of, as_asked}
 
@@ -27,6 +27,7 @@ IsNameAndText value name text = (has_equals name ≡ false) × (((value ≡ name
 abbrev pub IsValue : Key → List ℕ → Setting → Type 0
 IsValue key.Prefix value setting = setting ≡ Prefix value
 IsValue key.Directory value setting = setting ≡ Directory value
+IsValue key.Message value setting = setting ≡ Ignored value
 IsValue key.Definition value setting = (name : List ℕ) × (text : List ℕ) × IsNameAndText value name text × (setting ≡ Definition name text)
 
 -- what an option that has a value begins with
@@ -34,6 +35,7 @@ abbrev pub mark : Key → List ℕ
 mark key.Prefix = codes "-p"
 mark key.Directory = codes "-I"
 mark key.Definition = codes "-D"
+mark key.Message = codes "-vw"
 
 -- These words ask for these settings, one after another.
 pub data AskFor : List (List ℕ) → List Setting → Type 0 where
@@ -74,6 +76,10 @@ abbrev pub definition_of : Setting → List Define
 definition_of (Definition name text) = define_of name text ∷ []
 definition_of _ = []
 
+abbrev pub ignored_of : Setting → List (List ℕ)
+ignored_of (Ignored number) = number ∷ []
+ignored_of _ = []
+
 abbrev pub is_preprocess_only : Setting → Bool
 is_preprocess_only PreprocessOnly = true
 is_preprocess_only _ = false
@@ -110,9 +116,12 @@ switches_in settings = record {
   shorten = not (list_any (turns keeps_names) settings);
   wrap = list_any (turns wraps_externals) settings;
   acpica = list_any (turns is_acpica) settings;
+  remarks = not (list_any (turns hides_remarks) settings);
+  warnings = not (list_any (turns hides_warnings) settings);
+  errors = not (list_any (turns hides_errors) settings);
 }
 
--- all that settings say; directories and definitions are in the order of the words
+-- all that settings say; directories, definitions and numbers are in the order of the words
 abbrev pub said : List Setting → Asked
 said settings = record {
   file = first (flat_map file_of settings);
@@ -122,6 +131,7 @@ said settings = record {
   only = list_any is_preprocess_only settings;
   enabled = not (list_any is_no_preprocessor settings);
   switches = switches_in settings;
+  ignored = flat_map ignored_of settings;
 }
 
 -- all that settings ask for

@@ -13,7 +13,7 @@ use Rattle.iasl_options.specs.declared.request.Options.{Options}
 use Rattle.iasl_options.specs.declared.request.WordsStop.{WordsStop}
 use Rattle.iasl_options.specs.declared.request.WordsStop.TheVariants as stop
 use Rattle.iasl_options.specs.Asking.{Asked, Behind}
-use Rattle.iasl_options.specs.Words.{Setting, PreprocessOnly, NoPreprocessor, Turned, Prefix, Directory, Definition, File, Word, Asks}
+use Rattle.iasl_options.specs.Words.{Setting, PreprocessOnly, NoPreprocessor, Turned, Prefix, Directory, Definition, Ignored, File, Word, Asks}
 use Rattle.iasl_options.specs.Words.{Opens, Unknown}
 
 abbrev pub shown_setting : code.Setting → Setting
@@ -23,6 +23,7 @@ shown_setting (c.Turned switch) = Turned switch
 shown_setting (c.Prefix value) = Prefix value.now
 shown_setting (c.Directory value) = Directory value.now
 shown_setting (c.Definition name text) = Definition name.now text.now
+shown_setting (c.Ignored number) = Ignored number.now
 shown_setting (c.File file) = File file.now
 
 abbrev pub shown_word : code_word.Word → Word
@@ -41,6 +42,7 @@ asked_in draft = record {
       draft.only;
   enabled = draft.enabled;
   switches = draft.switches;
+  ignored = draft.ignored;
 }
 
 -- what a step through the words comes to
@@ -59,6 +61,7 @@ asked_of options = record {
   only = options.only;
   enabled = options.enabled;
   switches = options.switches;
+  ignored = options.ignored;
 }
 
 -- what a call answers, unless memory runs out

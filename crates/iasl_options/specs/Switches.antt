@@ -23,6 +23,9 @@ switch_word switch.NoSignon = codes "-vs"
 switch_word switch.FirstLevel = codes "-w1"
 switch_word switch.SecondLevel = codes "-w2"
 switch_word switch.ThirdLevel = codes "-w3"
+switch_word switch.NoRemarks = codes "-vr"
+switch_word switch.ErrorsAlone = codes "-ve"
+switch_word switch.NoMessages = codes "-va"
 
 -- this switch, where the word is written so, or else another
 abbrev pub or_other : List ℕ → Switch → Option Switch → Option Switch
@@ -36,9 +39,13 @@ level_of word =
     or_other word switch.SecondLevel (
     or_other word switch.ThirdLevel None)))
 
+-- the same of those and of the switches by which messages are not told
+abbrev pub hiding_of : List ℕ → Option Switch
+hiding_of word = or_other word switch.NoRemarks (or_other word switch.ErrorsAlone (or_other word switch.NoMessages (level_of word)))
+
 -- the same of those and of the switches that are written with two hyphens
 abbrev pub further_of : List ℕ → Option Switch
-further_of word = or_other word switch.WrappedExternals (or_other word switch.Acpica (level_of word))
+further_of word = or_other word switch.WrappedExternals (or_other word switch.Acpica (hiding_of word))
 
 -- the switch that is written so
 abbrev pub switch_of : List ℕ → Option Switch
@@ -102,6 +109,24 @@ abbrev pub is_acpica : Switch → Bool
 is_acpica switch.Acpica = true
 is_acpica _ = false
 
+-- remarks are not told
+abbrev pub hides_remarks : Switch → Bool
+hides_remarks switch.NoRemarks = true
+hides_remarks switch.ErrorsAlone = true
+hides_remarks switch.NoMessages = true
+hides_remarks _ = false
+
+-- warnings are not told
+abbrev pub hides_warnings : Switch → Bool
+hides_warnings switch.ErrorsAlone = true
+hides_warnings switch.NoMessages = true
+hides_warnings _ = false
+
+-- errors are not told
+abbrev pub hides_errors : Switch → Bool
+hides_errors switch.NoMessages = true
+hides_errors _ = false
+
 abbrev pub no_switch : Switches
 no_switch = record {
   brief = false;
@@ -115,6 +140,9 @@ no_switch = record {
       true;
   wrap = false;
   acpica = false;
+  remarks = true;
+  warnings = true;
+  errors = true;
 }
 
 -- what switches ask for, with one more
@@ -130,4 +158,7 @@ with_switch switches one = record {
   shorten = switches.shorten && not (keeps_names one);
   wrap = switches.wrap || wraps_externals one;
   acpica = switches.acpica || is_acpica one;
+  remarks = switches.remarks && not (hides_remarks one);
+  warnings = switches.warnings && not (hides_warnings one);
+  errors = switches.errors && not (hides_errors one);
 }

@@ -99,6 +99,7 @@ generated_settings = record {
   enabled =
       true;
   switches = no_switch;
+  ignored = [];
 }
 
 -- a template is no compilation; nothing is asked of it
@@ -110,8 +111,8 @@ template_settings = record {
   definitions = [];
   only = false;
   enabled = true;
-  switches =
-      no_switch;
+  switches = no_switch;
+  ignored = [];
 }
 
 abbrev pub settings_in : Result Task ℕ → Result Asked ℕ

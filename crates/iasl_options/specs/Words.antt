@@ -20,6 +20,8 @@ pub data Setting : Type 0 where
   Directory : List ℕ → Setting
   -- a definition: a name and its text
   Definition : List ℕ → List ℕ → Setting
+  -- the number of a message that is neither told nor counted
+  Ignored : List ℕ → Setting
   File : List ℕ → Setting
 
 -- A word asks for a setting, or it is an option whose value is the next word, or an option that is not known.
@@ -36,6 +38,7 @@ equals_at value = unwrap_or (position (λ c. c == 61) value) (length value)
 abbrev pub with_value : Key → List ℕ → Setting
 with_value key.Prefix value = Prefix value
 with_value key.Directory value = Directory value
+with_value key.Message value = Ignored value
 with_value key.Definition value = Definition (take (equals_at value) value) (drop (equals_at value + 1) value)
 
 -- an option whose value is the rest of its word, or the next word where nothing is left
@@ -72,4 +75,5 @@ word_of word =
     or_valued key.Prefix (behind (codes "-p") word) (
     or_valued key.Directory (behind (codes "-I") word) (
     or_valued key.Definition (behind (codes "-D") word) (
-    other word))))))
+    or_valued key.Message (behind (codes "-vw") word) (
+    other word)))))))

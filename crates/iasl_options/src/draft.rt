@@ -20,6 +20,7 @@ pub(crate) struct Draft {
     only: bool,
     enabled: bool,
     switches: Switches,
+    ignored: Texts,
 }
 
 // By hand, so that an owner lets go of it by one call (docs/DECISIONS.md).
@@ -33,6 +34,7 @@ impl Drop for Draft {
             only: _,
             enabled: _,
             switches: _,
+            ignored: _,
         } = self;
     }
 }
@@ -67,6 +69,7 @@ impl Draft {
             only: false,
             enabled: true,
             switches: Switches::new(),
+            ignored: Texts::new(alloc),
         }
     }
 
@@ -101,6 +104,7 @@ impl Draft {
                 self.enabled = false;
             }
             Setting::Turned(switch) => self.switches = self.switches.with(switch),
+            Setting::Ignored(number) => self.ignored.push(Text::from_bytes(alloc, number)?)?,
             Setting::File(file) => {
                 if file.is_empty() || self.file.is_some() {
                     return Ok(false);
@@ -173,6 +177,7 @@ impl Draft {
             only,
             enabled,
             switches,
+            ignored,
         } = self;
         match (waiting, file) {
             (None, Some(file)) => Ok(Options {
@@ -183,6 +188,7 @@ impl Draft {
                 only,
                 enabled,
                 switches,
+                ignored,
             }),
             _ => Err(WordsStop::Bad { word: count }),
         }

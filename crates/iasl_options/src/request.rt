@@ -22,6 +22,8 @@ pub struct Options {
     pub enabled: bool,
     /// What the options without value ask for that may stand together with every other.
     pub switches: Switches,
+    /// The numbers of warnings and remarks that are neither told nor counted, as they are written (`-vw`).
+    pub ignored: Texts,
 }
 
 // By hand, so that an owner lets go of it by one call (docs/DECISIONS.md).
@@ -35,6 +37,7 @@ impl Drop for Options {
             only: _,
             enabled: _,
             switches: _,
+            ignored: _,
         } = self;
     }
 }

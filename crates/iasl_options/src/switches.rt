@@ -35,6 +35,12 @@ pub(crate) enum Switch {
     SecondLevel,
     /// `-w3`: those of the third too.
     ThirdLevel,
+    /// `-vr`: remarks are not told.
+    NoRemarks,
+    /// `-ve`: errors alone are told.
+    ErrorsAlone,
+    /// `-va`: no message is told.
+    NoMessages,
 }
 
 /// What the switches of a command line ask for.
@@ -60,6 +66,12 @@ pub struct Switches {
     pub wrap: bool,
     /// Whether outputs are named as ACPICA's compiler names them (`--acpica`).
     pub acpica: bool,
+    /// Whether remarks are told (not with `-vr`, `-ve` and `-va`).
+    pub remarks: bool,
+    /// Whether warnings are told (not with `-ve` and `-va`).
+    pub warnings: bool,
+    /// Whether errors are told (not with `-va`).
+    pub errors: bool,
 }
 
 // The further switches, of the words that ACPICA's compiler has or that are our own.
@@ -72,7 +84,19 @@ fn further_switch(word: &[u8]) -> Option<Switch>
     if word == b"--acpica".as_slice() {
         return Some(Switch::Acpica);
     }
-    level_switch(word)
+    hiding_switch(word)
+}
+
+// The switches by which messages are not told.
+fn hiding_switch(word: &[u8]) -> Option<Switch>
+    ensures { result ≡ spec.hiding_of word.now }
+{
+    match word {
+        b"-vr" => Some(Switch::NoRemarks),
+        b"-ve" => Some(Switch::ErrorsAlone),
+        b"-va" => Some(Switch::NoMessages),
+        _ => level_switch(word),
+    }
 }
 
 // The switches that change nothing here.
@@ -166,6 +190,27 @@ fn is_acpica(switch: Switch) -> bool
     matches!(switch, Switch::Acpica)
 }
 
+fn hides_remarks(switch: Switch) -> bool
+    ensures { result ≡ spec.hides_remarks switch }
+{
+    matches!(
+        switch,
+        Switch::NoRemarks | Switch::ErrorsAlone | Switch::NoMessages
+    )
+}
+
+fn hides_warnings(switch: Switch) -> bool
+    ensures { result ≡ spec.hides_warnings switch }
+{
+    matches!(switch, Switch::ErrorsAlone | Switch::NoMessages)
+}
+
+fn hides_errors(switch: Switch) -> bool
+    ensures { result ≡ spec.hides_errors switch }
+{
+    matches!(switch, Switch::NoMessages)
+}
+
 // Whether one thing is asked for, or the other.
 fn either(one: bool, other: bool) -> bool
     ensures { result ≡ (one || other) }
@@ -181,8 +226,8 @@ fn unless(done: bool, kept: bool) -> bool
 }
 
 impl Switches {
-    // No switch is given.
-    pub(crate) fn new() -> Switches
+    /// No switch is given.
+    pub fn new() -> Switches
         ensures { result ≡ spec.no_switch }
     {
         Switches {
@@ -196,6 +241,9 @@ impl Switches {
             shorten: true,
             wrap: false,
             acpica: false,
+            remarks: true,
+            warnings: true,
+            errors: true,
         }
     }
 
@@ -214,6 +262,9 @@ impl Switches {
             shorten: unless(self.shorten, keeps_names(switch)),
             wrap: either(self.wrap, wraps_externals(switch)),
             acpica: either(self.acpica, is_acpica(switch)),
+            remarks: unless(self.remarks, hides_remarks(switch)),
+            warnings: unless(self.warnings, hides_warnings(switch)),
+            errors: unless(self.errors, hides_errors(switch)),
         }
     }
 }

@@ -43,6 +43,7 @@ pub fn generated_options(alloc: Global) -> Result<Options, AllocError>
         only: false,
         enabled: true,
         switches: Switches::new(),
+        ignored: Texts::new(alloc),
     })
 }
 

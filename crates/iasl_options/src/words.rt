@@ -16,6 +16,8 @@ pub(crate) enum Key {
     Directory,
     /// `-D`: a definition.
     Definition,
+    /// `-vw`: a message that is neither told nor counted.
+    Message,
 }
 
 /// One thing that is asked for.
@@ -28,6 +30,7 @@ pub(crate) enum Setting<'a> {
     Prefix(&'a [u8]),
     Directory(&'a [u8]),
     Definition { name: &'a [u8], text: &'a [u8] },
+    Ignored(&'a [u8]),
     File(&'a [u8]),
 }
 
@@ -96,6 +99,7 @@ pub(crate) fn with_value(key: Key, value: &[u8]) -> Setting<'_>
         Key::Prefix => Setting::Prefix(value),
         Key::Directory => Setting::Directory(value),
         Key::Definition => definition(value),
+        Key::Message => Setting::Ignored(value),
     }
 }
 
@@ -148,6 +152,9 @@ pub(crate) fn word_of(word: &[u8]) -> Word<'_>
     }
     if let Some(value) = behind(b"-D", word) {
         return valued(Key::Definition, value);
+    }
+    if let Some(value) = behind(b"-vw", word) {
+        return valued(Key::Message, value);
     }
     other(word)
 }

@@ -37,6 +37,8 @@ const HELP: &[u8] = b"usage: iasl [options] FILE ...
   -oa             -of, -oi and -on together
   --wrap-externals  write Externals in If (Zero), as ACPICA's interpreter wants them
   --acpica        --wrap-externals, and P of -p loses its extension
+  -vr -ve -va     do not print remarks, remarks and warnings, or any message
+  -vw N           neither print nor count warnings and remarks of the number N
   -vs -w1 -w2 -w3 change nothing
   -G              the source is a generic data table
   -T SIGNATURE    alone: write a template of a data table, as APIC, FACP, HPET, MCFG, SLIT or SRAT

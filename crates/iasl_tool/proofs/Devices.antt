@@ -13,6 +13,8 @@ use Rattle.std.specs.List.{list_any}
 use Rattle.iasl_ports.specs.Fetched.{same_name}
 use Rattle.asl_preprocess.specs.Sound.{IsGoodLine}
 use Rattle.iasl_options.specs.Asking.{Asked}
+use Rattle.iasl_options.specs.Switches.{no_switch}
+use Rattle.iasl_options.specs.declared.switches.Switches.{Switches}
 use Rattle.iasl_options.specs.Task.{generated_settings}
 use Rattle.generated_lines.specs.Generated.{generated_lines}
 use Rattle.table_outputs.specs.Files.{first_in_use, name_in_use, table_files}
@@ -20,6 +22,7 @@ use Rattle.block_outcomes.specs.declared.outcome.Compiled.{Compiled}
 use Rattle.block_outcomes.specs.declared.outcome.Compiled.TheVariants.{Made, Refused}
 use Rattle.block_outcomes.specs.declared.outcome.Table.{Table}
 use Rattle.iasl_tool.specs.Sources.{of_source}
+use Rattle.iasl_tool.specs.Told.{counted, shown}
 use Rattle.iasl_tool.specs.Due.{console_text, made_files, unless_in_use, made_or_in_use, lines_of_tables, files_of_tables, style_of, answer_to_compiled, answer_to_generated}
 
 -- small lines of the first file are good ones of one file
@@ -42,8 +45,10 @@ text_same : (brief : Bool) (messages : List Message) → messages_text ([] ∷ [
 text_same brief [] = refl
 text_same brief (message ∷ messages) = λ i. line_same brief message i ++ text_same brief messages i
 
-console_same : (brief : Bool) (messages : List Message) (made : List ℕ) → console_text brief ([] ∷ []) messages made ≡ console_text brief [] messages made
-console_same brief messages made = ap (λ text. text ++ made ++ summary_line (sorted_messages messages)) (text_same brief (sorted_messages messages))
+console_same : (switches : Switches) (ignored : List (List ℕ)) (messages : List Message) (made : List ℕ) → console_text switches ignored ([] ∷ []) messages made ≡ console_text switches ignored [] messages made
+console_same switches ignored messages made =
+    let sorted = sorted_messages (counted ignored messages) in
+    ap (λ text. text ++ made ++ summary_line sorted) (text_same switches.brief (shown switches sorted))
 
 abbrev ends_with : ℕ → List Named → List ℕ → Answer
 ends_with status due text = record { status = status; text = text; due = due }
@@ -69,14 +74,14 @@ tables_named [] = tt
 tables_named (table ∷ tables) = table_named table.own table.pieces (files_of_tables generated_settings (codes "generated") tables) (tables_named tables)
 
 -- tables of such names are made alike
-tables_same : (notes : List Message) (line : List ℕ) (due : List Named) → AreNamed (map (λ file. file.0) due) → made_or_in_use false ([] ∷ []) notes line due ≡ made_or_in_use false [] notes line due
+tables_same : (notes : List Message) (line : List ℕ) (due : List Named) → AreNamed (map (λ file. file.0) due) → made_or_in_use generated_settings ([] ∷ []) notes line due ≡ made_or_in_use generated_settings [] notes line due
 tables_same notes line due h =
-    ap (λ o. unless_in_use o (made_files false ([] ∷ []) notes line due)) (same_use (map (λ file. file.0) due) h)
-    ∙ ap (λ text. unless_in_use (name_in_use [] due) (ends_with 0 due text)) (console_same false notes line)
+    ap (λ o. unless_in_use o (made_files generated_settings ([] ∷ []) notes line due)) (same_use (map (λ file. file.0) due) h)
+    ∙ ap (λ text. unless_in_use (name_in_use [] due) (ends_with 0 due text)) (console_same no_switch [] notes line)
 
 no_file : (more : List ℕ) (it : Compiled) → answer_to_compiled generated_settings (codes "generated") ([] ∷ []) [] more it ≡ answer_to_compiled generated_settings (codes "generated") [] [] more it
 no_file more (Made tables told) = tables_same told (lines_of_tables generated_settings (codes "generated") tables ++ more) (files_of_tables generated_settings (codes "generated") tables) (tables_named tables)
-no_file more (Refused messages) = ap (ends_with 1 []) (console_same false messages [])
+no_file more (Refused messages) = ap (ends_with 1 []) (console_same no_switch [] messages [])
 
 some_file : (file name : List ℕ) → Some file ≡ Some name → file ≡ name
 some_file file name e = cc

@@ -64,7 +64,7 @@ lines_with request lines items more = lines_of_tables request.asked request.file
 
 -- what is due of a source in which no warning refuses these files, whose names are free
 abbrev due_with : Request → List (List ℕ) → List Message → List ℕ → List Line → List Raw → List Named → Answer
-due_with request files notes more lines items due = made_files request.asked.switches.brief files (notes ++ all_noted items) (lines_with request lines items more) due
+due_with request files notes more lines items due = made_files request.asked files (notes ++ all_noted items) (lines_with request lines items more) due
 
 -- what is due of a source in which no warning refuses these files
 abbrev named_with : Request → List (List ℕ) → List Message → List ℕ → List Line → List Raw → List Named → Answer
@@ -73,7 +73,7 @@ named_with request files notes more lines items due = unless_in_use (name_in_use
 -- what is due of these files, whatever warnings there are
 abbrev noted_with : Request → List (List ℕ) → List Message → List ℕ → List Line → List Raw → List Named → Answer
 noted_with request files notes more lines items due =
-    cond (request.asked.switches.strict && has_warning (notes ++ all_noted items)) (refusal request.asked.switches.brief files (notes ++ all_noted items)) (named_with request files notes more lines items due)
+    cond (request.asked.switches.strict && has_warning request.asked.ignored (notes ++ all_noted items)) (refusal request.asked files (notes ++ all_noted items)) (named_with request files notes more lines items due)
 
 -- the bytes of a block's pieces are its table
 pub bytes_are : (request : Request) (lines : List Line) (items : List Raw) → errors_at items ≡ [] → statements_in items ≡ [] → IsKeptSource (writtens items) → table_bytes (cut_in (style_of request.asked) lines items) ≡ table_for request items
@@ -136,7 +136,7 @@ answer_is words told request items h =
     let more = more_of h.named.come in
     given_is words told request h.named (Made (tables_of (style_of request.asked) lines items) (all_noted items)) (compiled_is words told request items h)
     ∙ ap (λ due. Some (noted_with request files notes more lines items due)) (files_are request lines items h.right.blocks (kept_source words told request items h))
-    ∙ ap (λ c. Some (cond c (refusal request.asked.switches.brief files (notes ++ all_noted items)) (named_with request files notes more lines items (source_files request lines items)))) (is_passed request.asked (notes ++ all_noted items) h.notes_pass)
+    ∙ ap (λ c. Some (cond c (refusal request.asked files (notes ++ all_noted items)) (named_with request files notes more lines items (source_files request lines items)))) (is_passed request.asked (notes ++ all_noted items) h.notes_pass)
     ∙ ap (λ o. Some (unless_in_use o (due_with request files notes more lines items (source_files request lines items)))) h.names_are_free
 
 each_does : (request : Request) (lines : List Line) (items : List Raw) → EachRight items → AreKeptAlone items → EachWithin (style_of request.asked) items → EachDoes request lines items
@@ -167,7 +167,7 @@ data_line request table more = table_line (data_file_of request) table.signature
 
 -- what is due of a data table where no warning refuses these files, whose names are free
 abbrev due_data : Request → List (List ℕ) → List Message → List ℕ → DataTable → List Named → Answer
-due_data request files notes line table due = made_files request.asked.switches.brief files (notes ++ table.notes) line due
+due_data request files notes line table due = made_files request.asked files (notes ++ table.notes) line due
 
 -- what is due of a data table where no warning refuses these files
 abbrev named_data : Request → List (List ℕ) → List Message → List ℕ → DataTable → List Named → Answer
@@ -176,7 +176,7 @@ named_data request files notes line table due = unless_in_use (name_in_use files
 -- what is due of these files, whatever warnings there are
 abbrev noted_data : Request → List (List ℕ) → List Message → List ℕ → DataTable → List Named → Answer
 noted_data request files notes line table due =
-    cond (request.asked.switches.strict && has_warning (notes ++ table.notes)) (refusal request.asked.switches.brief files (notes ++ table.notes)) (named_data request files notes line table due)
+    cond (request.asked.switches.strict && has_warning request.asked.ignored (notes ++ table.notes)) (refusal request.asked files (notes ++ table.notes)) (named_data request files notes line table due)
 
 -- what is due of the one table of a text of fields
 data_due : (request : Request) (files : List (List ℕ)) (notes : List Message) (more : List ℕ) (table : DataTable)
@@ -202,7 +202,7 @@ data_is words told request table h =
     let due = data_files_of request table in
     given_is words told request h.named (of_data (Ok table)) (data_comes words told request table h)
     ∙ ap Some (data_due request files notes (more_of h.named.come) table)
-    ∙ ap (λ c. Some (cond c (refusal request.asked.switches.brief files (notes ++ table.notes)) (named_data request files notes line table due))) (is_passed request.asked (notes ++ table.notes) h.notes_pass)
+    ∙ ap (λ c. Some (cond c (refusal request.asked files (notes ++ table.notes)) (named_data request files notes line table due))) (is_passed request.asked (notes ++ table.notes) h.notes_pass)
     ∙ ap (λ o. Some (unless_in_use o (due_data request files notes line table due))) h.names_are_free
 
 -- the table reads back, of whichever kind it is
@@ -257,8 +257,8 @@ module _ (words : List (List ℕ)) (told : List Named) where
   })
 
   by_notes : (k : Known words told) (asl : is_data_source k.request.asked.switches.generic k.named.lines ≡ false) (tokens : List Token) (items : List Raw) (c : Bool) → tokens_of k.named.lines ≡ Ok tokens → outcome tokens ≡ read items → IsRightSource items → EachWithin (style_of k.request.asked) items
-      → (k.request.asked.switches.strict && has_warning (k.named.notes ++ all_noted items)) ≡ c
-      → status_of (Some (cond c (refusal k.request.asked.switches.brief k.named.files (k.named.notes ++ all_noted items)) (named_with k.request k.named.files k.named.notes (more_of k.named.come) k.named.lines items (source_files k.request k.named.lines items)))) ≡ 0 → Found words told
+      → (k.request.asked.switches.strict && has_warning k.request.asked.ignored (k.named.notes ++ all_noted items)) ≡ c
+      → status_of (Some (cond c (refusal k.request.asked k.named.files (k.named.notes ++ all_noted items)) (named_with k.request k.named.files k.named.notes (more_of k.named.come) k.named.lines items (source_files k.request k.named.lines items)))) ≡ 0 → Found words told
   by_notes k asl tokens items true et eo es ew ep h = absurd (omega (arith, h))
   by_notes k asl tokens items false et eo es ew ep h =
       by_name k asl tokens items (name_in_use k.named.files (source_files k.request k.named.lines items)) et eo es ew (lets_pass k.request.asked (k.named.notes ++ all_noted items) ep) refl h
@@ -268,7 +268,7 @@ module _ (words : List (List ℕ)) (told : List Named) where
       → status_with words told k (Made (tables_of (style_of k.request.asked) k.named.lines items) (all_noted items)) ≡ 0 → Found words told
   by_made k asl tokens items et eo es ew h =
       let kept = kept_from words told k.request k.named tokens items et (is_spelled tokens (Ok (record { items = items })) eo) in
-      by_notes k asl tokens items (k.request.asked.switches.strict && has_warning (k.named.notes ++ all_noted items)) et eo es ew refl
+      by_notes k asl tokens items (k.request.asked.switches.strict && has_warning k.request.asked.ignored (k.named.notes ++ all_noted items)) et eo es ew refl
       (subst (λ due. status_of (Some (noted_with k.request k.named.files k.named.notes (more_of k.named.come) k.named.lines items due)) ≡ 0) (files_are k.request k.named.lines items es.blocks kept) h)
 
   by_items : (k : Known words told) (asl : is_data_source k.request.asked.switches.generic k.named.lines ≡ false) (tokens : List Token) (items : List Raw) (it : Compiled) → tokens_of k.named.lines ≡ Ok tokens → outcome tokens ≡ read items → of_items (style_of k.request.asked) k.named.lines items ≡ it
@@ -296,14 +296,14 @@ module _ (words : List (List ℕ)) (told : List Named) where
   by_data_name k table (Some name) kind et ep en h = absurd (omega (arith, h))
   by_data_name k table None kind et ep en h = a_data_table k.request table (record { named = k.named; is_data = kind; table_is = et; notes_pass = ep; names_are_free = en })
 
-  by_data_notes : (k : Known words told) (table : DataTable) (c : Bool) → is_data_source k.request.asked.switches.generic k.named.lines ≡ true → data_answer k.request.asked.switches.generic k.named.lines ≡ Ok table → (k.request.asked.switches.strict && has_warning (k.named.notes ++ table.notes)) ≡ c
-      → status_of (Some (cond c (refusal k.request.asked.switches.brief k.named.files (k.named.notes ++ table.notes)) (named_data k.request k.named.files k.named.notes (data_line k.request table (more_of k.named.come)) table (data_files_of k.request table)))) ≡ 0 → Found words told
+  by_data_notes : (k : Known words told) (table : DataTable) (c : Bool) → is_data_source k.request.asked.switches.generic k.named.lines ≡ true → data_answer k.request.asked.switches.generic k.named.lines ≡ Ok table → (k.request.asked.switches.strict && has_warning k.request.asked.ignored (k.named.notes ++ table.notes)) ≡ c
+      → status_of (Some (cond c (refusal k.request.asked k.named.files (k.named.notes ++ table.notes)) (named_data k.request k.named.files k.named.notes (data_line k.request table (more_of k.named.come)) table (data_files_of k.request table)))) ≡ 0 → Found words told
   by_data_notes k table true kind et ep h = absurd (omega (arith, h))
   by_data_notes k table false kind et ep h = by_data_name k table (name_in_use k.named.files (data_files_of k.request table)) kind et (lets_pass k.request.asked (k.named.notes ++ table.notes) ep) refl h
 
   by_answer : (k : Known words told) (answer : DataAnswer) → is_data_source k.request.asked.switches.generic k.named.lines ≡ true → data_answer k.request.asked.switches.generic k.named.lines ≡ answer → status_with words told k (of_data answer) ≡ 0 → Found words told
   by_answer k (Ok table) kind et h =
-      by_data_notes k table (k.request.asked.switches.strict && has_warning (k.named.notes ++ table.notes)) kind et refl
+      by_data_notes k table (k.request.asked.switches.strict && has_warning k.request.asked.ignored (k.named.notes ++ table.notes)) kind et refl
       (subst (λ answer. status_of (Some answer) ≡ 0) (data_due k.request k.named.files k.named.notes (more_of k.named.come) table) h)
   by_answer k (Err faults) kind et h = absurd (omega (arith, h))
 
@@ -371,19 +371,19 @@ Settled None = Unit {0}
 Settled (Some answer) = (answer.status ≡ 0) ⊎ (answer.due ≡ [])
 
 module _ (words : List (List ℕ)) (told : List Named) where
-  named_settled : (brief : Bool) (o : Option (List ℕ)) (files : List (List ℕ)) (notes : List Message) (line : List ℕ) (due : List Named) → Settled (Some (unless_in_use o (made_files brief files notes line due)))
-  named_settled brief (Some name) files notes line due = inr refl
-  named_settled brief None files notes line due = inl refl
+  named_settled : (asked : Asked) (o : Option (List ℕ)) (files : List (List ℕ)) (notes : List Message) (line : List ℕ) (due : List Named) → Settled (Some (unless_in_use o (made_files asked files notes line due)))
+  named_settled asked (Some name) files notes line due = inr refl
+  named_settled asked None files notes line due = inl refl
 
-  strict_settled : (brief c : Bool) (files : List (List ℕ)) (notes : List Message) (answer : Answer) → Settled (Some answer) → Settled (Some (cond c (refusal brief files notes) answer))
-  strict_settled brief true files notes answer h = inr refl
-  strict_settled brief false files notes answer h = h
+  strict_settled : (asked : Asked) (c : Bool) (files : List (List ℕ)) (notes : List Message) (answer : Answer) → Settled (Some answer) → Settled (Some (cond c (refusal asked files notes) answer))
+  strict_settled asked true files notes answer h = inr refl
+  strict_settled asked false files notes answer h = h
 
   compiled_settled : (asked : Asked) (file : List ℕ) (files : List (List ℕ)) (notes : List Message) (more : List ℕ) (it : Compiled) → Settled (Some (answer_to_compiled asked file files notes more it))
   compiled_settled asked file files notes more (Made tables told) =
       let line = lines_of_tables asked file tables ++ more in
       let due = files_of_tables asked file tables in
-      strict_settled asked.switches.brief (asked.switches.strict && has_warning (notes ++ told)) files (notes ++ told) (made_or_in_use asked.switches.brief files (notes ++ told) line due) (named_settled asked.switches.brief (name_in_use files due) files (notes ++ told) line due)
+      strict_settled asked (asked.switches.strict && has_warning asked.ignored (notes ++ told)) files (notes ++ told) (made_or_in_use asked files (notes ++ told) line due) (named_settled asked (name_in_use files due) files (notes ++ told) line due)
   compiled_settled asked file files notes more (Refused messages) = inr refl
 
   lines_settled : (asked : Asked) (file : List ℕ) (files : List (List ℕ)) (lines : List Line) (notes : List Message) (c : Bool) → c ≡ false → Settled (Some (cond c (answer_to_text asked file files lines notes) (answer_to_compiled asked file files notes [] (of_source asked.switches.generic (style_of asked) lines))))

@@ -221,7 +221,7 @@ abbrev status_with : (words : List (List ℕ)) (told : List Named) (request : Re
 status_with words told request named it = status_of (Some (answer_to_compiled request.asked request.file named.files named.notes (more_of named.come) it))
 
 module _ (words : List (List ℕ)) (told : List Named) where
-  both_true : (asked : Asked) (notes : List Message) → RefusesNotes asked notes → (asked.switches.strict && has_warning notes) ≡ true
+  both_true : (asked : Asked) (notes : List Message) → RefusesNotes asked notes → (asked.switches.strict && has_warning asked.ignored notes) ≡ true
   both_true asked notes h = λ i. h.strict i && h.warned i
 
   asl_is : (request : Request) (lines : List Line) (it : Compiled) → is_data_source request.asked.switches.generic lines ≡ false → of_lines (style_of request.asked) lines ≡ it → of_source request.asked.switches.generic (style_of request.asked) lines ≡ it
@@ -232,10 +232,10 @@ module _ (words : List (List ℕ)) (told : List Named) where
 
   -- tables of which a note is a warning are refused
   warned_is : (asked : Asked) (file : List ℕ) (files : List (List ℕ)) (notes : List Message) (more : List ℕ) (tables : List Table) (behind : List Message) → RefusesNotes asked (notes ++ behind)
-      → answer_to_compiled asked file files notes more (Made tables behind) ≡ refusal asked.switches.brief files (notes ++ behind)
+      → answer_to_compiled asked file files notes more (Made tables behind) ≡ refusal asked files (notes ++ behind)
   warned_is asked file files notes more tables behind h =
-      let made = made_or_in_use asked.switches.brief files (notes ++ behind) (lines_of_tables asked file tables ++ more) (files_of_tables asked file tables) in
-      ap (λ c. cond c (refusal asked.switches.brief files (notes ++ behind)) made) (both_true asked (notes ++ behind) h)
+      let made = made_or_in_use asked files (notes ++ behind) (lines_of_tables asked file tables ++ more) (files_of_tables asked file tables) in
+      ap (λ c. cond c (refusal asked files (notes ++ behind)) made) (both_true asked (notes ++ behind) h)
 
   preprocessed_is : (request : Request) (p : Preprocessed) → IsCommandLine words request.asked → request.asked.file ≡ Some request.file → preprocessed told request.file request.asked.directories request.asked.definitions request.asked.enabled ≡ p → answer_for words told ≡ answer_to_preprocessed request.asked request.file p
   preprocessed_is request p line file_is e =
@@ -244,15 +244,15 @@ module _ (words : List (List ℕ)) (told : List Named) where
       ∙ ap (answer_to_preprocessed request.asked request.file) e
 
   -- what is refused has its refusal as the answer
-  refused_answer : (request : Request) (files : List (List ℕ)) (messages : List Message) → IsRefused words told request files messages → answer_for words told ≡ Some (refusal request.asked.switches.brief files messages)
+  refused_answer : (request : Request) (files : List (List ℕ)) (messages : List Message) → IsRefused words told request files messages → answer_for words told ≡ Some (refusal request.asked files messages)
   refused_answer request files messages (stopped message fs line file_is e) = preprocessed_is request (Stopped message fs) line file_is e
   refused_answer request files messages (text_warned fs lines notes line file_is only e h) =
       let asked = request.asked in
       let file = request.file in
-      let made = made_or_in_use asked.switches.brief fs notes (preprocessed_line (text_name asked file)) ((text_name asked file, text_of_lines lines) ∷ []) in
+      let made = made_or_in_use asked fs notes (preprocessed_line (text_name asked file)) ((text_name asked file, text_of_lines lines) ∷ []) in
       preprocessed_is request (Given fs lines notes) line file_is e
       ∙ ap (λ c. Some (cond c (answer_to_text asked file fs lines notes) (answer_to_compiled asked file fs notes [] (of_source asked.switches.generic (style_of asked) lines)))) only
-      ∙ ap (λ c. Some (cond c (refusal asked.switches.brief fs notes) made)) (both_true asked notes h)
+      ∙ ap (λ c. Some (cond c (refusal asked fs notes) made)) (both_true asked notes h)
   refused_answer request files messages (source_refused named ms asl h) =
       given_is words told request named (Refused ms) (asl_is request named.lines (Refused ms) asl (refused_are (style_of request.asked) named.lines ms h))
   refused_answer request files messages (source_warned named tokens items asl spelled right within h) =
@@ -267,27 +267,27 @@ module _ (words : List (List ℕ)) (told : List Named) where
 
   -- ---- and nothing else has status 1
 
-  not_one : (brief : Bool) (o : Option (List ℕ)) (files : List (List ℕ)) (notes : List Message) (line : List ℕ) (due : List Named) → status_of (Some (unless_in_use o (made_files brief files notes line due))) ≡ 1 → ⊥
-  not_one brief None files notes line due h = absurd (omega (arith, h))
-  not_one brief (Some name) files notes line due h = absurd (omega (arith, h))
+  not_one : (asked : Asked) (o : Option (List ℕ)) (files : List (List ℕ)) (notes : List Message) (line : List ℕ) (due : List Named) → status_of (Some (unless_in_use o (made_files asked files notes line due))) ≡ 1 → ⊥
+  not_one asked None files notes line due h = absurd (omega (arith, h))
+  not_one asked (Some name) files notes line due h = absurd (omega (arith, h))
 
-  warned_from : (asked : Asked) (notes : List Message) → (asked.switches.strict && has_warning notes) ≡ true → RefusesNotes asked notes
+  warned_from : (asked : Asked) (notes : List Message) → (asked.switches.strict && has_warning asked.ignored notes) ≡ true → RefusesNotes asked notes
   warned_from asked notes e = by asked.switches.strict refl e
     where
-      by : (c : Bool) → asked.switches.strict ≡ c → (c && has_warning notes) ≡ true → RefusesNotes asked notes
+      by : (c : Bool) → asked.switches.strict ≡ c → (c && has_warning asked.ignored notes) ≡ true → RefusesNotes asked notes
       by true f h = record { strict = f; warned = h }
       by false f h = absurd cc
 
   -- files that are made have status 1 only by a warning
-  by_warning : (asked : Asked) (files : List (List ℕ)) (notes : List Message) (line : List ℕ) (due : List Named) (c : Bool) → (asked.switches.strict && has_warning notes) ≡ c
-      → status_of (Some (cond c (refusal asked.switches.brief files notes) (made_or_in_use asked.switches.brief files notes line due))) ≡ 1 → RefusesNotes asked notes
+  by_warning : (asked : Asked) (files : List (List ℕ)) (notes : List Message) (line : List ℕ) (due : List Named) (c : Bool) → (asked.switches.strict && has_warning asked.ignored notes) ≡ c
+      → status_of (Some (cond c (refusal asked files notes) (made_or_in_use asked files notes line due))) ≡ 1 → RefusesNotes asked notes
   by_warning asked files notes line due true e h = warned_from asked notes e
-  by_warning asked files notes line due false e h = absurd (not_one asked.switches.brief (name_in_use files due) files notes line due h)
+  by_warning asked files notes line due false e h = absurd (not_one asked (name_in_use files due) files notes line due h)
 
   tables_warned : (asked : Asked) (file : List ℕ) (files : List (List ℕ)) (notes : List Message) (more : List ℕ) (tables : List Table) (behind : List Message)
       → status_of (Some (answer_to_compiled asked file files notes more (Made tables behind))) ≡ 1 → RefusesNotes asked (notes ++ behind)
   tables_warned asked file files notes more tables behind h =
-      by_warning asked files (notes ++ behind) (lines_of_tables asked file tables ++ more) (files_of_tables asked file tables) (asked.switches.strict && has_warning (notes ++ behind)) refl h
+      by_warning asked files (notes ++ behind) (lines_of_tables asked file tables ++ more) (files_of_tables asked file tables) (asked.switches.strict && has_warning asked.ignored (notes ++ behind)) refl h
 
   by_source : (request : Request) (named : NamesLines words told request) (it : Compiled) → is_data_source request.asked.switches.generic named.lines ≡ false → Comes (style_of request.asked) named.lines it → status_with words told request named it ≡ 1 → Refusal words told
   by_source request named it asl (are_refused ms h) one = record { request = request; files = named.files; messages = named.notes ++ ms; refused = source_refused named ms asl h }
@@ -312,7 +312,7 @@ module _ (words : List (List ℕ)) (told : List Named) where
   by_only request files lines notes true line file_is e only one =
       let asked = request.asked in
       let name = text_name asked request.file in
-      let warned = by_warning asked files notes (preprocessed_line name) ((name, text_of_lines lines) ∷ []) (asked.switches.strict && has_warning notes) refl one in
+      let warned = by_warning asked files notes (preprocessed_line name) ((name, text_of_lines lines) ∷ []) (asked.switches.strict && has_warning asked.ignored notes) refl one in
       record { request = request; files = files; messages = notes; refused = text_warned files lines notes line file_is only e warned }
   by_only request files lines notes false line file_is e only one =
       by_kind request (record { files = files; lines = lines; notes = notes; come = a_file line file_is only e }) (is_data_source request.asked.switches.generic lines) refl one
@@ -350,7 +350,7 @@ module _ (words : List (List ℕ)) (status : ℕ) (old new : World) (told : List
         text = subst (λ (o : Option Answer). Tells old new (text_of o)) (refused_answer words told r.request r.files r.messages r.refused) ((end.console told is).ended low);
       }
 
-  by_end : (request : Request) (files : List (List ℕ)) (messages : List Message) → answer_for words told ≡ Some (refusal request.asked.switches.brief files messages) → (status ≡ status_of (answer_for words told)) ⊎ (status ≡ 4)
+  by_end : (request : Request) (files : List (List ℕ)) (messages : List Message) → answer_for words told ≡ Some (refusal request.asked files messages) → (status ≡ status_of (answer_for words told)) ⊎ (status ≡ 4)
       → ((status ≡ 1) × Tells old new (refusal_text request files messages)) ⊎ (status ≡ 4)
   by_end request files messages answer (inl e) =
       let one : status ≡ 1 = e ∙ ap status_of answer in

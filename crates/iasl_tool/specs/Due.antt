@@ -1,5 +1,5 @@
 -- What a call is to end with: its status, the text of the console, and the files to put.
-use Rattle.std.specs.Prelude.{ℕ, Bool, false, ◌&&◌, cond, List, [], ◌∷◌, ◌++◌, length, map, codes, Some, None, Result, Ok, Err}
+use Rattle.std.specs.Prelude.{ℕ, Bool, false, ◌&&◌, not, cond, List, [], ◌∷◌, ◌++◌, length, map, codes, Some, None, Result, Ok, Err}
 use Rattle.std.specs.Char.{to_ascii_lowercase}
 use Rattle.std.specs.declared.option.Option.{Option}
 use Rattle.std.specs.List.{list_any}
@@ -14,8 +14,9 @@ use Rattle.iasl_messages.specs.Order.{sorted_messages}
 use Rattle.iasl_messages.specs.Console.{messages_text, summary_line, table_line, preprocessed_line, devices_line, template_line}
 use Rattle.asl_preprocess.specs.Preprocess.{Preprocessed, Given, Stopped, Absent, preprocessed}
 use Rattle.iasl_options.specs.Asking.{Asked}
+use Rattle.iasl_options.specs.declared.switches.Switches.{Switches}
 use Rattle.data_layout.specs.declared.table.Table.{Table as Layout}
-use Rattle.iasl_options.specs.Task.{Task, Compiles, Generates, Templates, generated_settings, task_by}
+use Rattle.iasl_options.specs.Task.{Task, Compiles, Generates, Templates, generated_settings, template_settings, task_by}
 use Rattle.generated_lines.specs.Generated.{generated_lines}
 use Rattle.iasl_options.specs.Names.{output_name}
 use Rattle.iasl_backends.specs.Table.{table_bytes}
@@ -27,19 +28,22 @@ use Rattle.block_outcomes.specs.declared.outcome.Compiled.{Compiled}
 use Rattle.block_outcomes.specs.declared.outcome.Compiled.TheVariants.{Made, Refused}
 use Rattle.block_outcomes.specs.declared.outcome.Table.{Table}
 use Rattle.iasl_tool.specs.Sources.{of_source}
+use Rattle.iasl_tool.specs.Told.{is_ignored, counted, shown}
 
--- the messages in order, in the brief form or the full one, a line of what was made, and how many messages there are
-abbrev pub console_text : Bool → List (List ℕ) → List Message → List ℕ → List ℕ
-console_text brief files messages made = messages_text files brief (sorted_messages messages) ++ made
-    ++ summary_line (sorted_messages messages)
+-- the messages that count in order, those of them that are told, in the brief form or the full one, a line of what was made, and how many
+-- messages there are
+abbrev pub console_text : Switches → List (List ℕ) → List (List ℕ) → List Message → List ℕ → List ℕ
+console_text switches ignored files messages made =
+    messages_text files switches.brief (shown switches (sorted_messages (counted ignored messages))) ++ made
+    ++ summary_line (sorted_messages (counted ignored messages))
 
 -- of a source that is refused, with these errors and notes: no file
-abbrev pub refusal : Bool → List (List ℕ) → List Message → Answer
-refusal brief files messages = record { status = 1; text = console_text brief files messages []; due = [] }
+abbrev pub refusal : Asked → List (List ℕ) → List Message → Answer
+refusal asked files messages = record { status = 1; text = console_text asked.switches asked.ignored files messages []; due = [] }
 
 -- of files that are made: these files, and the line that tells of them
-abbrev pub made_files : Bool → List (List ℕ) → List Message → List ℕ → List Named → Answer
-made_files brief files notes line due = record { status = 0; text = console_text brief files notes line; due = due }
+abbrev pub made_files : Asked → List (List ℕ) → List Message → List ℕ → List Named → Answer
+made_files asked files notes line due = record { status = 0; text = console_text asked.switches asked.ignored files notes line; due = due }
 
 -- of an output that has the name of a file that was fetched
 abbrev pub in_use : List ℕ → Answer
@@ -50,20 +54,21 @@ unless_in_use None answer = answer
 unless_in_use (Some name) answer = in_use name
 
 -- files that are made, if none of their names is in use
-abbrev pub made_or_in_use : Bool → List (List ℕ) → List Message → List ℕ → List Named → Answer
-made_or_in_use brief files notes line due = unless_in_use (name_in_use files due) (made_files brief files notes line due)
+abbrev pub made_or_in_use : Asked → List (List ℕ) → List Message → List ℕ → List Named → Answer
+made_or_in_use asked files notes line due = unless_in_use (name_in_use files due) (made_files asked files notes line due)
 
--- whether one of the messages is a warning
-abbrev pub has_warning : List Message → Bool
-has_warning messages = list_any (λ message. is_same Warning (severity_of message.number)) messages
+-- whether one of the messages that count is a warning
+abbrev pub has_warning : List (List ℕ) → List Message → Bool
+has_warning ignored messages =
+    list_any (λ message. is_same Warning (severity_of message.number) && not (is_ignored ignored message.number)) messages
 
 -- an answer with files, if no warning among the notes refuses them
 abbrev pub unless_strict : Asked → List (List ℕ) → List Message → Answer → Answer
-unless_strict asked files notes answer = cond (asked.switches.strict && has_warning notes) (refusal asked.switches.brief files notes) answer
+unless_strict asked files notes answer = cond (asked.switches.strict && has_warning asked.ignored notes) (refusal asked files notes) answer
 
 -- files that are made, if no warning refuses them and none of their names is in use
 abbrev pub made_or_refused : Asked → List (List ℕ) → List Message → List ℕ → List Named → Answer
-made_or_refused asked files notes line due = unless_strict asked files notes (made_or_in_use asked.switches.brief files notes line due)
+made_or_refused asked files notes line due = unless_strict asked files notes (made_or_in_use asked files notes line due)
 
 -- the name of the preprocessed text's file
 abbrev pub text_name : Asked → List ℕ → List ℕ
@@ -94,7 +99,7 @@ files_of_tables asked file (table ∷ tables) = table_files asked file table.own
 abbrev pub answer_to_compiled : Asked → List ℕ → List (List ℕ) → List Message → List ℕ → Compiled → Answer
 answer_to_compiled asked file files notes more (Made tables told) =
     made_or_refused asked files (notes ++ told) (lines_of_tables asked file tables ++ more) (files_of_tables asked file tables)
-answer_to_compiled asked file files notes more (Refused messages) = refusal asked.switches.brief files (notes ++ messages)
+answer_to_compiled asked file files notes more (Refused messages) = refusal asked files (notes ++ messages)
 
 -- how tables are to be written
 abbrev pub style_of : Asked → Style
@@ -114,7 +119,7 @@ answer_to_lines asked file files lines notes = cond asked.only (answer_to_text a
 -- none where the main file is not there
 abbrev pub answer_to_preprocessed : Asked → List ℕ → Preprocessed → Option Answer
 answer_to_preprocessed asked file (Given files lines notes) = Some (answer_to_lines asked file files lines notes)
-answer_to_preprocessed asked file (Stopped message files) = Some (refusal asked.switches.brief files (message ∷ []))
+answer_to_preprocessed asked file (Stopped message files) = Some (refusal asked files (message ∷ []))
 answer_to_preprocessed asked file Absent = None
 
 -- of words that are not good
@@ -138,7 +143,7 @@ template_name table = map to_ascii_lowercase (signature_of table) ++ codes ".asl
 
 -- Of a template: its lines, for which no file is fetched. Nothing is told but its name and its signature.
 abbrev pub answer_to_template : Layout → Answer
-answer_to_template table = made_files false [] [] (template_line (template_name table) (signature_of table))
+answer_to_template table = made_files template_settings [] [] (template_line (template_name table) (signature_of table))
     ((template_name table, piece_lines (default_pieces table)) ∷ [])
 
 abbrev pub answer_to_task : List Named → Result Task ℕ → Option Answer

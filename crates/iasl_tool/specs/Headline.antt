@@ -33,6 +33,7 @@ use Rattle.program_shapes.specs.Sources.{IsRightSource, IsTableOfSource}
 use Rattle.asl_tables.specs.Compiled.{own_in, all_noted, written_in, cut_in, EachWithin}
 use Rattle.table_outputs.specs.Files.{table_name, further_files, name_in_use}
 use Rattle.iasl_tool.specs.Sources.{is_data_source, data_answer}
+use Rattle.iasl_tool.specs.Told.{is_ignored}
 use Rattle.iasl_tool.specs.Due.{style_of, answer_for}
 use Rattle.iasl_tool.specs.Outside.{Puts}
 
@@ -127,9 +128,10 @@ pub record NamesLines (words : List (List ℕ)) (told : List Named) (request : R
   pub notes : List Message
   pub come : ComeFrom words told request files lines notes
 
--- what words ask for lets these notes pass: where it asks that warnings refuse a source, none of them is a warning
+-- what words ask for lets these notes pass: where it asks that warnings refuse a source, each warning among them is
+-- ignored
 abbrev pub LetsPass : Asked → List Message → Type 0
-LetsPass asked notes = asked.switches.strict ≡ true → All (λ note. severity_of note.number ≡ Warning → ⊥) notes
+LetsPass asked notes = asked.switches.strict ≡ true → All (λ note. severity_of note.number ≡ Warning → is_ignored asked.ignored note.number ≡ true) notes
 
 -- The words name lines (`ComeFrom`), which are no data table and are cut into tokens that spell this source, nowhere too
 -- deep; nothing is wrong with it, each of its items being a block with a namespace of its own, of none are too many

@@ -1,4 +1,5 @@
 pub mod Sources
+pub mod Told
 pub mod Due
 pub mod Outputs
 pub mod Outside

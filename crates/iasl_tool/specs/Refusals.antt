@@ -91,7 +91,7 @@ pub data AreRefused (style : Style) (lines : List Line) : List Message → Type 
 -- the words ask that warnings refuse a source, and there is one among these notes
 pub record RefusesNotes (asked : Asked) (notes : List Message) : Type 0 where
   pub strict : asked.switches.strict ≡ true
-  pub warned : has_warning notes ≡ true
+  pub warned : has_warning asked.ignored notes ≡ true
 
 -- What is refused of what the words name, with the files that were fetched and what is told: a source whose
 -- preprocessing stops; preprocessed text, the table of a source or a data table of which a note is a warning that
@@ -120,7 +120,7 @@ pub data IsRefused (words : List (List ℕ)) (told : List Named) (request : Requ
 
 -- the text of the console then: the messages in order, in the form that is asked for, and how many there are
 abbrev pub refusal_text : Request → List (List ℕ) → List Message → List ℕ
-refusal_text request files messages = (refusal request.asked.switches.brief files messages).text
+refusal_text request files messages = (refusal request.asked files messages).text
 
 -- the words name what is refused, and the console gained what is told of that
 pub record TellsRefusal (words : List (List ℕ)) (told : List Named) (before after : World) : Type 0 where

@@ -24,6 +24,7 @@ ghost use Rattle.std.specs.Str.{IsAscii};
 use crate::generated::answer_to_generated;
 use crate::source::compile_source;
 use crate::template::answer_to_template;
+use crate::told::{counted, is_ignored, shown};
 use asl_preprocess::{PreStop, Preprocessed, preprocess};
 use asl_tables::compile::Style;
 use block_outcomes::messages::{both, one_message};
@@ -35,6 +36,7 @@ use iasl_messages::place::{Line, Lines, Piece};
 use iasl_messages::severity::{Severity, severity_of};
 use iasl_options::names::{file_name, output_name};
 use iasl_options::request::{Options, WordsStop};
+use iasl_options::switches::Switches;
 use iasl_options::task::{Task, task_of};
 use iasl_ports::delivery::{Due, OutFile, Stop};
 use iasl_ports::files::Files;
@@ -52,39 +54,49 @@ fn push_text(text: &mut Vec<u8>, line: &Text) -> Result<(), AllocError>
     text.extend_from_slice(line.as_bytes())
 }
 
-// The messages in order, in the brief form or the full one, a line of what was made, and how many messages there are.
+// The messages that count in order, those of them that are told, a line of what was made, and how many messages there are.
 pub(crate) fn console_text(
     alloc: Global,
-    brief: bool,
+    switches: Switches,
+    ignored: &Texts,
     files: &Texts,
     messages: Messages,
     made: &Text,
 ) -> Result<Text, AllocError>
     requires { AreWithin (length files.now) messages }
-    ensures { IfOk result (λ text. text ≡ console_text brief files.now messages made.now) }
+    ensures { IfOk result (λ text. text ≡ console_text switches ignored.now files.now messages made.now) }
 {
-    let messages = sort(alloc, messages)?;
+    let sorted = sort(alloc, counted(ignored, messages))?;
+    let counts = summary(alloc, &sorted)?;
+    let told = shown(switches, sorted);
     let mut text = Vec::new(alloc);
-    push_text(&mut text, &render(alloc, &messages, files, brief)?)?;
+    push_text(&mut text, &render(alloc, &told, files, switches.brief)?)?;
     push_text(&mut text, made)?;
-    push_text(&mut text, &summary(alloc, &messages)?)?;
+    push_text(&mut text, &counts)?;
     Text::from_vec(alloc, text)
 }
 
 // What is due of a source that is refused, with these errors and notes.
 fn refuse(
     alloc: Global,
-    brief: bool,
+    options: &Options,
     files: &Texts,
     messages: Messages,
 ) -> Result<Due<'static>, AllocError>
     requires { AreWithin (length files.now) messages }
-    ensures due { IfOk result (λ due. answer_of due ≡ refusal brief files.now messages) }
+    ensures due { IfOk result (λ due. answer_of due ≡ refusal (asked_of options.now) files.now messages) }
     ensures settled { IfOk result IsSettled }
 {
     Ok(Due {
         status: 1,
-        text: console_text(alloc, brief, files, messages, &Text::new(alloc))?,
+        text: console_text(
+            alloc,
+            options.switches,
+            &options.ignored,
+            files,
+            messages,
+            &Text::new(alloc),
+        )?,
         files: Vec::new(alloc),
     })
 }
@@ -92,16 +104,16 @@ fn refuse(
 // The decision of a source that is refused, with these errors and notes.
 fn decide_refusal(
     alloc: Global,
-    brief: bool,
+    options: &Options,
     files: &Texts,
     messages: Messages,
 ) -> Result<Decision, AllocError>
     requires { AreWithin (length files.now) messages }
-    ensures due { IfOk result (λ decision. end_of decision ≡ refusal brief files.now messages) }
+    ensures due { IfOk result (λ decision. end_of decision ≡ refusal (asked_of options.now) files.now messages) }
     ensures decided { (asked : Asked) → IfOk result (IsDecidedBy asked) }
     ensures made { (all : List SpecPiece) → IfOk result (IsMadeOf all) }
 {
-    Ok(Decision::Ends(refuse(alloc, brief, files, messages)?))
+    Ok(Decision::Ends(refuse(alloc, options, files, messages)?))
 }
 
 fn one_file(
@@ -122,7 +134,7 @@ fn one_file(
 // What is due of a file that is made.
 fn make_file(
     alloc: Global,
-    brief: bool,
+    options: &Options,
     files: &Texts,
     notes: Messages,
     line: &Text,
@@ -130,12 +142,19 @@ fn make_file(
     bytes: Vec<u8>,
 ) -> Result<Due<'static>, AllocError>
     requires { AreWithin (length files.now) notes }
-    ensures due { IfOk result (λ due. answer_of due ≡ made_files brief files.now notes line.now ((string_bytes name, bytes.items) ∷ [])) }
+    ensures due { IfOk result (λ due. answer_of due ≡ made_files (asked_of options.now) files.now notes line.now ((string_bytes name, bytes.items) ∷ [])) }
     ensures settled { IfOk result IsSettled }
 {
     Ok(Due {
         status: 0,
-        text: console_text(alloc, brief, files, notes, line)?,
+        text: console_text(
+            alloc,
+            options.switches,
+            &options.ignored,
+            files,
+            notes,
+            line,
+        )?,
         files: one_file(alloc, name, bytes)?,
     })
 }
@@ -172,21 +191,19 @@ fn is_warning(number: u16) -> bool
     matches!(severity_of(number), Severity::Warning)
 }
 
-// Whether one of the messages is a warning.
-fn has_warning(messages: &Messages) -> bool
-    ensures { result ≡ has_warning messages.now }
+// Whether one of the messages that count is a warning.
+fn has_warning(ignored: &Texts, messages: &Messages) -> bool
+    ensures { result ≡ has_warning ignored.now messages.now }
 {
-    messages
-        .as_slice()
-        .iter()
-        .any(|message| is_warning(message.number))
+    messages.as_slice().iter().any(|message| is_warning(message.number)
+        && !is_ignored(ignored, message.number))
 }
 
 // Whether a warning among the notes refuses what is made.
 fn is_refused(options: &Options, notes: &Messages) -> bool
-    ensures { result ≡ ((asked_of options.now).switches.strict && has_warning notes.now) }
+    ensures { result ≡ ((asked_of options.now).switches.strict && has_warning (asked_of options.now).ignored notes.now) }
 {
-    options.switches.strict && has_warning(notes)
+    options.switches.strict && has_warning(&options.ignored, notes)
 }
 
 // What is due of a file that is made, if no warning refuses it and its name is not in use.
@@ -205,19 +222,11 @@ fn make_or_refuse(
     ensures settled { IfOk result IsSettled }
 {
     if is_refused(options, &notes) {
-        refuse(alloc, options.switches.brief, files, notes)
+        refuse(alloc, options, files, notes)
     } else if is_fetched(files.as_slice(), name.as_bytes()) {
         refuse_name(alloc, &name)
     } else {
-        make_file(
-            alloc,
-            options.switches.brief,
-            files,
-            notes,
-            line,
-            name,
-            bytes,
-        )
+        make_file(alloc, options, files, notes, line, name, bytes)
     }
 }
 
@@ -385,9 +394,8 @@ fn make_tables(
     ensures decided { IfOk result (IsDecidedBy (asked_of options.now)) }
     ensures made { IfOk result (IsMadeOf (last_pieces tables)) }
 {
-    let brief = options.switches.brief;
     if is_refused(options, &notes) {
-        return decide_refusal(alloc, brief, files, notes);
+        return decide_refusal(alloc, options, files, notes);
     }
     let Outputs { mut lines, tables } = outputs_of(alloc, options, tables)?;
     if let Some(name) = name_in_use(alloc, files.as_slice(), tables.as_slice())? {
@@ -395,7 +403,14 @@ fn make_tables(
     }
     push_text(&mut lines, more)?;
     let line = Text::from_vec(alloc, lines)?;
-    let text = console_text(alloc, brief, files, notes, &line)?;
+    let text = console_text(
+        alloc,
+        options.switches,
+        &options.ignored,
+        files,
+        notes,
+        &line,
+    )?;
     Ok(decide_made(text, tables))
 }
 
@@ -443,7 +458,7 @@ pub(crate) fn make_compiled(
         ),
         Compiled::Refused(messages) => decide_refusal(
             alloc,
-            options.switches.brief,
+            options,
             &lines.files,
             both(notes, messages)?,
         ),
@@ -479,17 +494,17 @@ fn answer_to_lines(
 // What is due of a source whose preprocessing stops with this message.
 fn answer_to_stop(
     alloc: Global,
-    brief: bool,
+    options: &Options,
     files: &Texts,
     message: Message,
 ) -> Result<Decision, AllocError>
     requires { message.place.file < length files.now }
-    ensures due { IfOk result (λ decision. end_of decision ≡ refusal brief files.now (message ∷ [])) }
+    ensures due { IfOk result (λ decision. end_of decision ≡ refusal (asked_of options.now) files.now (message ∷ [])) }
     ensures decided { (asked : Asked) → IfOk result (IsDecidedBy asked) }
     ensures made { (all : List SpecPiece) → IfOk result (IsMadeOf all) }
 {
     let messages = one_message(alloc, message)?;
-    decide_refusal(alloc, brief, files, messages)
+    decide_refusal(alloc, options, files, messages)
 }
 
 // What is due where the words are not good.
@@ -522,10 +537,7 @@ fn answer<F: Files>(alloc: Global, options: &Options, files: &mut F) -> Result<D
     ) {
         Ok(given) => Ok(answer_to_lines(alloc, options, given)?),
         Err(PreStop::Refused { message, files }) => Ok(answer_to_stop(
-            alloc,
-            options.switches.brief,
-            &files,
-            message,
+            alloc, options, &files, message,
         )?),
         Err(PreStop::Absent | PreStop::ReadFault) => Err(Stop::Fault),
         Err(PreStop::Memory) => Err(Stop::Memory),

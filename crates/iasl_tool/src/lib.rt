@@ -6,3 +6,4 @@ mod generated;
 pub mod run;
 mod source;
 mod template;
+mod told;

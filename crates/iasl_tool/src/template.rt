@@ -10,6 +10,7 @@ use data_generic::template::{default_lines, signature_of};
 use data_layout::table::Table;
 use iasl_messages::console::template_line;
 use iasl_messages::message::Messages;
+use iasl_options::switches::Switches;
 use iasl_ports::list::{Text, Texts};
 use std::alloc::{AllocError, Global};
 use table_outputs::decision::{Decision, Making, OutputNames, TableList};
@@ -35,7 +36,8 @@ fn template_text(alloc: Global, table: Table) -> Result<Text, AllocError>
     let line = template_line(alloc, template_name(table).as_bytes(), signature_of(table))?;
     console_text(
         alloc,
-        false,
+        Switches::new(),
+        &Texts::new(alloc),
         &Texts::new(alloc),
         Messages::new(alloc),
         &line,

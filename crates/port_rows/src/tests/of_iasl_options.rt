@@ -48,6 +48,7 @@ struct Good {
     only: bool,
     enabled: bool,
     switches: Switches,
+    ignored: &'static [&'static [u8]],
 }
 
 fn has_prefix(options: &Options, wanted: Option<&[u8]>) -> bool {
@@ -66,6 +67,7 @@ fn ask_for(options: &Options, row: &Good) -> bool {
         && options.only == row.only
         && options.enabled == row.enabled
         && options.switches == row.switches
+        && are(&options.ignored, row.ignored)
 }
 
 // What no switch asks for.
@@ -80,6 +82,9 @@ const NONE: Switches = Switches {
     shorten: true,
     wrap: false,
     acpica: false,
+    remarks: true,
+    warnings: true,
+    errors: true,
 };
 
 // What `t.asl` alone asks for.
@@ -92,11 +97,44 @@ const PLAIN: Good = Good {
     only: false,
     enabled: true,
     switches: NONE,
+    ignored: &[],
 };
 
 // Words that are taken, each with what they ask for.
-static GOOD_WORDS: [Good; 24] = [
+static GOOD_WORDS: [Good; 28] = [
     PLAIN,
+    Good {
+        words: &["-vr", "t.asl"],
+        switches: Switches {
+            remarks: false,
+            ..NONE
+        },
+        ..PLAIN
+    },
+    Good {
+        words: &["t.asl", "-ve", "-vr"],
+        switches: Switches {
+            remarks: false,
+            warnings: false,
+            ..NONE
+        },
+        ..PLAIN
+    },
+    Good {
+        words: &["-va", "t.asl"],
+        switches: Switches {
+            remarks: false,
+            warnings: false,
+            errors: false,
+            ..NONE
+        },
+        ..PLAIN
+    },
+    Good {
+        words: &["-vw", "3003", "t.asl", "-vw2001", "-vw", "-P"],
+        ignored: &[b"3003", b"2001", b"-P"],
+        ..PLAIN
+    },
     Good {
         words: &["-p", "d.x/dsdt.aml", "--acpica", "t.asl"],
         prefix: Some(b"d.x/dsdt"),
