@@ -1,8 +1,7 @@
 -- Sessions of Ifs, ElseIfs, Switches, and of And and Or. Another implementation gives the values.
-use Rattle.std.proofs.Common.{◌≡◌, ℕ, true, false, List, [], ◌∷◌, ◌++◌, Option, Some, None, refl}
+use Rattle.std.proofs.Common.{◌≡◌, ℕ, false, List, [], ◌∷◌, ◌++◌, Some, None, refl}
 use Rattle.std.specs.Prelude.{codes}
-use Rattle.acpi_values.specs.declared.width.Width.{Width}
-use Rattle.acpi_values.specs.declared.width.Width.TheVariants.{W32, W64}
+use Rattle.acpi_values.specs.declared.width.Width.TheVariants.{W64}
 use Rattle.acpi_values.specs.declared.fault.Fault.TheVariants as Fault
 use Rattle.acpi_values.specs.declared.operator.IntOp.TheVariants as IntOp
 use Rattle.acpi_values.specs.declared.operator.DataOp.TheVariants as DataOp
@@ -12,28 +11,18 @@ use Rattle.acpi_values.specs.Values as V
 use Rattle.acpi_values.specs.Values.{Value, Data, no_elements, uninitialized, element, Named, LocalOf, ArgOf, ElementAt, ElementOf}
 use Rattle.acpi_state.specs.Objects as E
 use Rattle.acpi_state.specs.Objects.{Device, ThermalZone, PowerResource, Processor}
-use Rattle.acpi_state.specs.FieldUnits.{Unconnected, ToObject, ToResource}
-use Rattle.acpi_state.specs.FieldActs.{OneBit, OneByte, OneWord, OneDWord, OneQWord, SomeBits}
-use Rattle.acpi_state.specs.Outcomes.{Normal, NoValue, Unfinished, Done, Stopped}
+use Rattle.acpi_state.specs.Outcomes.{Normal, NoValue, Done}
 use Rattle.acpi_state.specs.Sessions.{present_ones}
-use Rattle.asl_tree.specs.declared.term.Literal.TheVariants as Literal
-use Rattle.asl_tree.specs.declared.term.Compound.TheVariants as Compound
-use Rattle.asl_tree.specs.FieldItems.{SkipItem, OffsetItem, AccessItem, ConnectionItem, ToName, ToBytes}
-use Rattle.asl_tree.specs.Tree.{Tree, Integer, Constant, String, Debug as DebugTerm, Omitted, Raw, Use, Call, Apply, Operated, Assigned}
-use Rattle.asl_tree.specs.Tree.{AssignedBy, Buffer, Package, VarPackage, CondRefOf, Return, Name, Alias, External, Method, Mutex}
-use Rattle.asl_tree.specs.Tree.{Event as EventTerm, Container', Scope, If, ElseIf, Else, While, For, Print, Switch, Case, Default, Break}
-use Rattle.asl_tree.specs.Tree.{Continue, OperationRegion, Field, IndexField, BankField, CreateField, Trees, no_trees}
+use Rattle.asl_tree.specs.Tree.{Integer, String, Debug as DebugTerm, Use, Apply, Operated, Assigned}
+use Rattle.asl_tree.specs.Tree.{Buffer, Package, Return, Name, External, Method}
+use Rattle.asl_tree.specs.Tree.{If, ElseIf, Else, Switch, Case, Default, Break}
+use Rattle.asl_tree.specs.Tree.{Trees, no_trees}
 use Rattle.asl_meaning.specs.Declarations.{externals}
-use Rattle.aml_meaning.specs.Encoded.{encoded_terms}
 use Rattle.aml_meaning.specs.Codes.{code_front}
-use Rattle.aml_code.specs.Header.{HeaderFields, table_bytes}
+use Rattle.aml_code.specs.Header.{table_bytes}
 use Rattle.acpi_names.specs.Errors.{name_errors, type_errors}
-use Rattle.named_sessions.specs.Core.{core_of}
-use Rattle.asl_lower.specs.Nodes.{named_all}
-use Rattle.asl_prints.specs.Forms.{formed_all}
-use Rattle.hidden_locals.specs.Switches.{without_switches}
-use Rattle.meaning_rows.proofs.Rows.{at, fields, narrow_fields}
-use Rattle.meaning_rows.proofs.Outside.{hex, number, reference, call, Asked, Told, gives, faults, of_bytes, of_source, written_whole, terms, path, one, local, arg, unit}
+use Rattle.meaning_rows.proofs.Rows.{at, fields}
+use Rattle.meaning_rows.proofs.Outside.{hex, number, reference, call, Asked, Told, gives, faults, of_bytes, of_source, written_whole, terms, one, local, arg}
 
 -- switch string cases
 -- Method (M, 1) { Switch (Arg0) { Case ("A") { Return (1) } Case (0x42) { Return (2) } Case (Buffer () {0x43}) { Return (3) } Case

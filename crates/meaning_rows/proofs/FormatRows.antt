@@ -10,7 +10,7 @@ use Rattle.acpi_values.specs.Values.{Value}
 use Rattle.acpi_state.specs.Objects as E
 use Rattle.acpi_state.specs.Objects.{Event}
 use Rattle.acpi_state.specs.Outcomes.{Flow, Normal, Gives, Unfinished, Result, Done, Stopped}
-use Rattle.acpi_state.specs.Forms.{LocalSlot, ArgSlot}
+use Rattle.acpi_state.specs.Forms.{ArgSlot}
 use Rattle.acpi_state.specs.Sessions.{Report, Request}
 use Rattle.asl_tree.specs.Tree.{Tree, Integer, InSlot, Debug, If, Return, For, Print, Switch, Case, Continue, Operated, Assigned, Trees}
 use Rattle.asl_meaning.specs.Declarations.{known_of}
