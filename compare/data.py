@@ -18,10 +18,13 @@ from pathlib import Path
 from acpica import without_creator
 
 TABLES = {"FACP": None, "APIC": "Subtable Type", "MCFG": "Base Address", "HPET": None, "SRAT": "Subtable Type", "SLIT": None}
-# Structures of the MADT and the SRAT that docs/DATA_TABLES.md has.
-TYPES = {"APIC": range(6), "SRAT": range(3)}
-KEPT = ["Signature", "Table Length", "Revision", "Checksum", "Asl Compiler", "Subtable Type", "Length", "Reserved"]
-KEPT += ["decoded below", "Space ID", "Access Width", "Localities", "Locality", "PM Profile"]
+TABLES |= {"BERT": None, "BGRT": None, "EINJ": "Action", "ERST": "Action", "GTDT": "Subtable Type", "HEST": "Subtable Type"}
+TABLES |= {"NFIT": "Subtable Type", "PCCT": "Subtable Type", "SPCR": None, "TPM2": None, "WAET": None}
+# Structures that docs/DATA_TABLES.md has, where ACPICA's template has others.
+TYPES = {"APIC": range(6), "SRAT": range(3), "GTDT": [1], "HEST": range(6, 11), "NFIT": [0, 1, 4, 5, 7]}
+KEPT = ["Signature", "Table Length", "Revision", "Checksum", "Asl Compiler", "Subtable Type", "Reserved"]
+KEPT += ["ecoded ", "Space ID", "Access Width", "Localities", "Locality", "PM Profile", "Start Method", "Action"]
+KEPT += ["Instruction", "Notify Type", "Notify Length"]
 FIELD = re.compile(r"^(\[[0-9A-F]+\]\s*)?\[?\d+\]\s*(.*?) : ([0-9A-F]+)(\s.*)?$")
 
 
@@ -47,7 +50,7 @@ def template(folder, signature):
 def varied(line):
     """A field's line with another number of its width."""
     field = FIELD.match(line)
-    if not field or any(word in field[2] for word in KEPT) or random.random() < 0.2:
+    if not field or field[2] in ["Length", "Flags"] or any(word in field[2] for word in KEPT) or random.random() < 0.2:
         return line
     digits = len(field[3])
     return line.replace(f" : {field[3]}", f" : {random.getrandbits(4 * digits):0{digits}X}", 1)

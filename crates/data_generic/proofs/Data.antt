@@ -1,16 +1,13 @@
 -- The data lines of a table are read back.
-use Rattle.std.proofs.Common.{◌≡◌, ◌≤◌, ◌<◌, ◌+◌, ◌-◌, ◌*◌, ◌^◌, nat_le, ℕ, Bool, true, false, cond, List, [], ◌∷◌, ◌++◌, length, take, map, Option, Some, None, Result, Ok, Err, refl, sym, ap, subst, ◌∙◌, arith, append_assoc, append-nil, length-append}
+use Rattle.std.proofs.Common.{◌≡◌, ◌≤◌, ◌+◌, ◌-◌, nat_le, ℕ, true, false, cond, List, [], ◌∷◌, ◌++◌, length, take, map, Option, Some, None, Ok, Err, refl, sym, ap, subst, ◌∙◌, arith, append_assoc, append-nil, length-append}
 use Rattle.std.specs.Prelude.{⊤}
 use Rattle.std.proofs.lemmas.List.{take_at}
-use Rattle.byteorder.specs.Endian.{little_bytes}
 use Rattle.resource_macros.specs.Identifiers.{utf16_of}
-use Rattle.iasl_messages.specs.declared.message.Message.{Message}
-use Rattle.iasl_messages.specs.declared.place.Piece.{Piece}
 use Rattle.data_text.specs.declared.field_line.FieldLine.{FieldLine}
 use Rattle.data_tables.specs.Entry.{Value, Number, Bytes}
 use Rattle.data_tables.specs.Compiling.{joined}
 use Rattle.data_tables.specs.Walk.{message_at}
-use Rattle.data_tables.specs.Reading.{bytes_at, number_of}
+use Rattle.data_tables.specs.Reading.{bytes_at}
 use Rattle.data_tables.proofs.Numbers.{little_length, little_back}
 use Rattle.data_tables.proofs.ReadBack.{bytes_here}
 use Rattle.data_generic.specs.declared.types.DataType.{DataType}

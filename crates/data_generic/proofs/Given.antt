@@ -1,11 +1,9 @@
 -- The values of data lines fit their types.
-use Rattle.std.proofs.Common.{◌≡◌, ◌≤◌, ◌<◌, ◌+◌, ◌-◌, ◌*◌, ◌%◌, ◌^◌, nat_le, nat_eq, ℕ, Bool, true, false, cond, List, [], ◌∷◌, ◌++◌, length, take, map, slice_index, Option, Some, None, Result, Ok, Err, refl, sym, ap, subst, ◌∙◌, arith, mod-lt}
+use Rattle.std.proofs.Common.{◌≡◌, ◌<◌, ◌+◌, ◌-◌, ◌*◌, ◌%◌, ◌^◌, nat_eq, ℕ, true, false, cond, List, [], length, map, Option, Some, None, Ok, refl, sym, ap, arith, mod-lt}
 use Rattle.std.specs.Prelude.{◌==◌, ◌&&◌}
 use Rattle.std.specs.Option.{option_map}
 use Rattle.std.proofs.Math.Nat.{one-le-pow}
-use Rattle.byteorder.specs.Endian.{little_bytes}
 use Rattle.resource_macros.specs.Identifiers.{uuid_of, are_in_form, pair, pair_places}
-use Rattle.iasl_messages.specs.declared.message.Message.{Message}
 use Rattle.data_text.specs.declared.field_line.FieldLine.{FieldLine}
 use Rattle.data_text.specs.Values.{number_in, text_in}
 use Rattle.data_tables.specs.Entry.{Value, Number, Bytes}
@@ -15,8 +13,8 @@ use Rattle.data_generic.specs.declared.types.DataType.{DataType}
 use Rattle.data_generic.specs.declared.types.DataType.TheVariants as d
 use Rattle.data_generic.specs.declared.labels.Label.{Label}
 use Rattle.data_generic.specs.Words.{Reference, Offset, Difference, is_reference, reference_in, name_in}
-use Rattle.data_generic.specs.Values.{plain_value, uuid_in, ascii_in, pairs_in}
-use Rattle.data_generic.specs.Walk.{Found, fault, in_room, number_by, offset_by, not_found, one_by, wrapped, difference_by, second_by, first_by, reference_by, number_at, if_first, label_by, plain_by, value_by}
+use Rattle.data_generic.specs.Values.{uuid_in, ascii_in, pairs_in}
+use Rattle.data_generic.specs.Walk.{Found, fault, in_room, number_by, offset_by, one_by, wrapped, difference_by, second_by, first_by, reference_by, number_at, if_first, label_by, plain_by, value_by}
 
 -- a value of a type: a number with room in its bytes, a text, bytes, or nothing
 abbrev pub Fits : DataType → Value → Type 0

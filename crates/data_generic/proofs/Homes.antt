@@ -1,5 +1,5 @@
 -- The messages of a generic text: which they are, and where they stand.
-use Rattle.std.proofs.Common.{◌≡◌, ℕ, zero, suc, drop, ◌+◌, ◌<◌, ◌⊎◌, inl, inr, nat_le, nat_eq, Bool, true, false, cond, List, [], ◌∷◌, ◌++◌, length, map, Option, Some, None, Ok, Err, Result, refl, sym, ap, ◌∙◌, subst, arith}
+use Rattle.std.proofs.Common.{◌≡◌, ℕ, zero, suc, drop, ◌+◌, ◌<◌, ◌⊎◌, inl, inr, nat_le, nat_eq, Bool, true, false, cond, List, [], ◌∷◌, length, map, Option, Some, None, Ok, Err, Result, refl, sym, subst}
 use Rattle.std.specs.List.{All}
 use Rattle.std.specs.Str.{bytes_eq}
 use Rattle.std.proofs.lemmas.List.Elements.{All-nil, All-cons, All-head, All-tail, All-append, All-weaker}
@@ -16,12 +16,12 @@ use Rattle.data_text.specs.declared.field_line.DataText.{DataText}
 use Rattle.data_text.specs.Parts.{place_of}
 use Rattle.data_text.specs.Source.{first_place, text_of}
 use Rattle.data_text.specs.Values.{text_in, number_in}
-use Rattle.data_text.proofs.Homes.{LinesIn, TextIn, text_in as text_places}
+use Rattle.data_text.proofs.Homes.{LinesIn, text_in as text_places}
 use Rattle.data_tables.specs.declared.compiled.Compiled.{Compiled}
 use Rattle.data_tables.specs.Entry.{Value, Number, Bytes}
 use Rattle.data_tables.specs.Fields.{value_of, row_key, has_room}
 use Rattle.data_tables.specs.Walk.{Walked, message_at, label_note}
-use Rattle.data_tables.specs.Compiling.{Answer, answer_with_texts, piece_of}
+use Rattle.data_tables.specs.Compiling.{Answer, piece_of}
 use Rattle.data_tables.specs.Headers.{any_table, without_colon, lines_by, is_signature, row_taken, rows_walk, header_walk}
 use Rattle.data_tables.specs.Promise.{Answers, AreWithin, TellsWithin, IsPlaceIn}
 use Rattle.data_tables.proofs.Homes.{line_places, first_is_place}
@@ -33,7 +33,7 @@ use Rattle.data_generic.specs.Words.{Reference, Offset, Difference, is_reference
 use Rattle.data_generic.specs.Values.{plain_value}
 use Rattle.data_generic.specs.Labels.{label_of}
 use Rattle.data_generic.specs.Walk.{Found, DataField, DataWalked, fault, in_room, number_by, offset_by, one_by, difference_by, second_by, first_by, reference_by, number_at, if_first, label_by, plain_by, value_by, data_bytes, most_bytes, halted, with_field, with_room, after_value, after_type, data_walk, walk_all}
-use Rattle.data_generic.specs.Compiling.{data_lines, table_by, behind_header, generic_by, checked_lines, generic_text, compiled_generic}
+use Rattle.data_generic.specs.Compiling.{data_lines, table_by, behind_header, generic_by, generic_text}
 use Rattle.data_generic.specs.Telling.{IsOne, TellsOne}
 
 -- ---- the message of a value stands at its line

@@ -1,7 +1,5 @@
 -- The bytes of a generic table read as the values that its text writes.
-use Rattle.std.proofs.Common.{◌≡◌, ◌≤◌, ◌<◌, ◌+◌, ◌^◌, ℕ, true, false, cond, List, [], ◌∷◌, ◌++◌, length, take, map, Option, Some, None, Result, Ok, Err, refl, sym, ap, subst, ◌∙◌, arith, length-append}
-use Rattle.std.specs.Prelude.{⊤}
-use Rattle.std.specs.Str.{bytes_eq}
+use Rattle.std.proofs.Common.{◌≡◌, ◌≤◌, ◌<◌, ◌+◌, ◌^◌, ℕ, true, false, cond, List, [], ◌∷◌, length, map, Result, Ok, Err, refl, sym, ap, subst, ◌∙◌, arith, length-append}
 use Rattle.iasl_messages.specs.declared.place.Line.{Line}
 use Rattle.iasl_messages.specs.declared.place.Piece.{Piece}
 use Rattle.iasl_messages.specs.declared.place.Place.{Place}
@@ -14,11 +12,9 @@ use Rattle.data_text.specs.declared.field_line.DataText.{DataText}
 use Rattle.data_text.specs.Source.{text_of}
 use Rattle.data_text.specs.Values.{text_in}
 use Rattle.data_tables.specs.declared.compiled.Compiled.{Compiled}
-use Rattle.data_tables.specs.Entry.{Entry}
 use Rattle.data_tables.specs.Entries.{entries_from}
 use Rattle.data_tables.specs.Walk.{Field, Walked, fault_at}
 use Rattle.data_tables.specs.Compiling.{Answer, answer_with_texts, piece_of, joined, sealed, with_texts}
-use Rattle.data_tables.specs.Reading.{rows_read, size_of, Stand}
 use Rattle.data_tables.specs.Headers.{is_signature, rows_walk, header_walk, AreFaults, AnswersPieces}
 use Rattle.data_tables.specs.Promise.{Answers}
 use Rattle.data_tables.proofs.Sums.{joined-append}
@@ -26,9 +22,9 @@ use Rattle.data_tables.proofs.Law.{bytes_stay}
 use Rattle.data_tables.proofs.Headers.{RowsOf, rows_fields, HeaderRead, header_read, header_bytes}
 use Rattle.data_generic.specs.Walk.{DataField, DataWalked, data_piece, most_bytes, walk_all}
 use Rattle.data_generic.specs.Labels.{label_of}
-use Rattle.data_generic.specs.Compiling.{data_lines, unsealed, first_bytes, table_by, behind_header, generic_by, checked_lines, generic_text, compiled_generic, DataEntry, entries_of, header_by, written_header, data_by, written_data}
+use Rattle.data_generic.specs.Compiling.{data_lines, unsealed, first_bytes, table_by, behind_header, generic_by, checked_lines, generic_text, compiled_generic, entries_of, header_by, written_header, data_by, written_data}
 use Rattle.data_generic.specs.Reading.{ReadsData, ReadsGeneric}
-use Rattle.data_generic.proofs.Data.{AllFit, IsGood, walk_good, fields_read}
+use Rattle.data_generic.proofs.Data.{IsGood, walk_good, fields_read}
 
 -- the fields of a header without faults are those of its rows
 header_fields : (end : Place) (lines : List FieldLine) → (header_walk end lines).faults ≡ [] → RowsOf header_rows (header_walk end lines).fields

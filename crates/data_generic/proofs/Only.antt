@@ -1,11 +1,10 @@
 -- What the bytes of a generic table read as, by the places, types and sizes of a list, is one list of values.
-use Rattle.std.proofs.Common.{◌≡◌, ◌+◌, ℕ, List, [], ◌∷◌, length, Ok, refl, sym, ap, subst, ◌∙◌}
+use Rattle.std.proofs.Common.{◌≡◌, ◌+◌, ℕ, List, [], ◌∷◌, Ok, refl, sym, ap, subst, ◌∙◌}
 use Rattle.iasl_messages.specs.declared.place.Place.{Place}
 use Rattle.iasl_messages.specs.declared.place.Line.{Line}
-use Rattle.data_text.specs.declared.field_line.FieldLine.{FieldLine}
 use Rattle.data_text.specs.Source.{text_of}
 use Rattle.data_tables.specs.declared.compiled.Compiled.{Compiled}
-use Rattle.data_tables.specs.Entry.{Value, Entry}
+use Rattle.data_tables.specs.Entry.{Entry}
 use Rattle.data_tables.specs.Reading.{bytes_at}
 use Rattle.data_tables.specs.Compiling.{joined, answer_with_texts, with_texts}
 use Rattle.data_generic.specs.declared.types.DataType.{DataType}

@@ -1,24 +1,46 @@
 -- The template of each table compiles to its own bytes, and nothing is told of it.
-use Rattle.std.proofs.Common.{◌≡◌, ℕ, cond, length, take, map, get_or, List, [], ◌∷◌, ◌++◌, codes, Ok, Err, refl, sym, ap, subst, ◌∙◌, arith}
-use Rattle.std.specs.Prelude.{decimal}
+use Rattle.std.proofs.Common.{◌≡◌, ℕ, Bool, true, false, cond, length, take, drop, map, get_or, List, [], ◌∷◌, ◌++◌, codes, Some, Ok, Err, refl, sym, ap, subst, ◌∙◌, arith}
+use Rattle.std.specs.Prelude.{decimal, ◌&&◌}
+use Rattle.std.specs.List.{list_all}
+use Rattle.std.proofs.lemmas.Bool.{and_parts}
+use Rattle.std.proofs.lemmas.Slice.Eq.{bytes_eq-Decides}
 use Rattle.std.specs.Str.{bytes_eq}
 use Rattle.std.proofs.lemmas.Fmt.{decimal_digit}
-use Rattle.std.specs.declared.result.Result.{Result}
 use Rattle.iasl_messages.specs.declared.message.Message.{Message}
 use Rattle.iasl_messages.specs.declared.place.Piece.{Piece}
 use Rattle.data_layout.specs.declared.table.Table.{Table}
 use Rattle.data_layout.specs.declared.table.Table.TheVariants as t
-use Rattle.data_layout.specs.Layout.{header_rows, fixed_rows, entry_rows, type_rows, madt_rows, srat_rows, fadt_rows, flags_of}
-use Rattle.data_tables.specs.declared.compiled.Compiled.{Compiled}
-use Rattle.data_tables.specs.Compiling.{compiled, joined}
+use Rattle.data_layout.specs.Layouts.{Layout, layouts}
+use Rattle.data_layout.specs.Layout.{table_of, layout_of, header_rows, fixed_rows, flags_of}
+use Rattle.data_layout.proofs.Lookup.{of_table}
+use Rattle.resource_macros.specs.Identifiers.{uuid_of}
+use Rattle.data_tables.specs.Compiling.{Answer, compiled, joined}
 use Rattle.data_generic.specs.Templates.{default_pieces, lines_of, ComesTo}
 
 abbrev CompilesToItself : Table → Type 0
 CompilesToItself table = ComesTo (compiled (lines_of (default_pieces table))) (joined (default_pieces table))
 
-hpet : CompilesToItself t.Hpet
-unfolding header_rows fixed_rows flags_of
-hpet = (refl, refl)
+-- the same as a test
+abbrev has_none : List Message → Bool
+has_none [] = true
+has_none (note ∷ notes) = false
+
+abbrev comes_to : Answer → List ℕ → Bool
+comes_to (Ok table) bytes = bytes_eq (joined table.pieces) bytes && has_none table.notes
+comes_to (Err messages) bytes = false
+
+abbrev compiles_to_itself : Table → Bool
+compiles_to_itself table = comes_to (compiled (lines_of (default_pieces table))) (joined (default_pieces table))
+
+is_none : (notes : List Message) → has_none notes ≡ true → notes ≡ []
+is_none [] h = refl
+is_none (note ∷ notes) h = absurd cc
+
+it_comes : (answer : Answer) (bytes : List ℕ) → comes_to answer bytes ≡ true → ComesTo answer bytes
+it_comes (Ok table) bytes h =
+    let each = and_parts (bytes_eq (joined table.pieces) bytes) (has_none table.notes) h in
+    ((bytes_eq-Decides (joined table.pieces) bytes).0 each.0, is_none table.notes each.1)
+it_comes (Err messages) bytes h = absurd cc
 
 -- the notes on the labels of the two localities, by the digits of their numbers
 abbrev label_note : ℕ → List ℕ → List ℕ → List Message
@@ -30,37 +52,27 @@ locality_notes zero_digits one_digits = label_note 11 (codes "locality0") zero_d
 no_notes : locality_notes (decimal 0) (decimal 1) ≡ []
 no_notes = ap (λ (digits : List ℕ). locality_notes digits (decimal 1)) (decimal_digit 0 (omega arith)) ∙ ap (locality_notes (codes "0")) (decimal_digit 1 (omega arith))
 
-slit : CompilesToItself t.Slit
-unfolding header_rows fixed_rows flags_of
-slit = (refl, no_notes)
+slit : compiles_to_itself t.Slit ≡ true
+unfolding layout_of header_rows fixed_rows flags_of
+slit = ap has_none no_notes
 
-mcfg : CompilesToItself t.Mcfg
-unfolding header_rows fixed_rows flags_of entry_rows
-mcfg = (refl, refl)
+-- the other tables, by computation
+abbrev others : List Layout
+others = drop 1 layouts
 
-apic : CompilesToItself t.Apic
-unfolding header_rows fixed_rows flags_of type_rows madt_rows
-apic = (refl, refl)
+all_others : list_all (λ (l : Layout). compiles_to_itself l.table) others ≡ true
+unfolding layout_of header_rows fixed_rows flags_of uuid_of
+all_others = refl
 
-srat : CompilesToItself t.Srat
-unfolding header_rows fixed_rows flags_of type_rows srat_rows
-srat = (refl, refl)
+all_tables : list_all (λ (l : Layout). compiles_to_itself l.table) layouts ≡ true
+all_tables = ap (λ (b : Bool). b && list_all (λ (l : Layout). compiles_to_itself l.table) others) slit ∙ all_others
 
-facp : CompilesToItself t.Facp
-unfolding header_rows fixed_rows flags_of fadt_rows
-facp = (refl, refl)
-
-pub compiles_to_itself : (table : Table) → CompilesToItself table
-compiles_to_itself t.Facp = facp
-compiles_to_itself t.Apic = apic
-compiles_to_itself t.Mcfg = mcfg
-compiles_to_itself t.Hpet = hpet
-compiles_to_itself t.Srat = srat
-compiles_to_itself t.Slit = slit
+pub compiles : (signature : List ℕ) (table : Table) → table_of signature ≡ Some table → CompilesToItself table
+compiles signature table e = it_comes (compiled (lines_of (default_pieces table))) (joined (default_pieces table)) (of_table compiles_to_itself all_tables signature table e)
 
 -- the same of pieces that are those of a template
-pub template_compiles : (table : Table) (pieces : List Piece) → pieces ≡ default_pieces table → ComesTo (compiled (lines_of pieces)) (joined pieces)
-template_compiles table pieces e = subst (λ (ps : List Piece). ComesTo (compiled (lines_of ps)) (joined ps)) (sym e) (compiles_to_itself table)
+pub template_compiles : (signature : List ℕ) (table : Table) (pieces : List Piece) → table_of signature ≡ Some table → pieces ≡ default_pieces table → ComesTo (compiled (lines_of pieces)) (joined pieces)
+template_compiles signature table pieces is e = subst (λ (ps : List Piece). ComesTo (compiled (lines_of ps)) (joined ps)) (sym e) (compiles signature table is)
 
 -- ---- worked out by computation
 
@@ -68,13 +80,13 @@ abbrev bytes_of : Table → List ℕ
 bytes_of table = joined (default_pieces table)
 
 sizes : (length (bytes_of t.Facp) ≡ 276) × (length (bytes_of t.Apic) ≡ 52) × (length (bytes_of t.Mcfg) ≡ 60) × (length (bytes_of t.Hpet) ≡ 56) × (length (bytes_of t.Srat) ≡ 88) × (length (bytes_of t.Slit) ≡ 48)
-unfolding header_rows fixed_rows fadt_rows entry_rows type_rows madt_rows srat_rows
+unfolding layout_of header_rows fixed_rows
 sizes = (refl, refl, refl, refl, refl, refl)
 
 checksums : (get_or (bytes_of t.Hpet) 9 0 ≡ 0x4D) × (get_or (bytes_of t.Slit) 9 0 ≡ 0x0C)
-unfolding header_rows fixed_rows
+unfolding layout_of header_rows fixed_rows
 checksums = (refl, refl)
 
 first_line : map (λ (piece : Piece). piece.source) (take 1 (default_pieces t.Hpet)) ≡ codes "[0004] Signature : \"HPET\"" ∷ []
-unfolding header_rows fixed_rows
+unfolding layout_of header_rows fixed_rows
 first_line = refl

@@ -1,6 +1,5 @@
 -- What the text of a generic table comes to: a table, or the messages of its faults.
-use Rattle.std.specs.Prelude.{◌≡◌, ℕ, List, [], ◌∷◌, ◌++◌, cond, drop, length, map, take, Some, None, Ok, Err, ⊤}
-use Rattle.std.specs.declared.option.Option.{Option}
+use Rattle.std.specs.Prelude.{ℕ, List, [], ◌∷◌, ◌++◌, cond, drop, length, map, Ok, Err}
 use Rattle.std.specs.declared.result.Result.{Result}
 use Rattle.iasl_messages.specs.declared.place.Place.{Place}
 use Rattle.iasl_messages.specs.declared.place.Line.{Line}

@@ -12,10 +12,12 @@ use Rattle.iasl_messages.specs.declared.place.Piece.{Piece}
 use Rattle.data_layout.specs.declared.row.Row.{Row}
 use Rattle.data_layout.specs.declared.row.Kind.{Kind}
 use Rattle.data_layout.specs.declared.row.Kind.TheVariants as k
+use Rattle.data_layout.specs.declared.row.Behind.{Behind}
+use Rattle.data_layout.specs.declared.row.Behind.TheVariants as b
 use Rattle.data_layout.specs.declared.table.Table.{Table}
-use Rattle.data_layout.specs.declared.table.Table.TheVariants as t
-use Rattle.data_layout.specs.Layout.{header_rows, fixed_rows, entry_rows, type_rows, structure_rows, locality_row}
-use Rattle.hex_text.specs.Blanks.{is_blank, has_blanks_alone}
+use Rattle.data_layout.specs.Layout.{layout_of, header_rows, fixed_rows, behind_of, entry_rows, type_rows, structure_rows, locality_row}
+pub use Rattle.data_layout.specs.Layout.{signature_of}
+use Rattle.hex_text.specs.Blanks.{has_blanks_alone}
 use Rattle.data_text.specs.Labels.{label_key}
 use Rattle.data_tables.specs.Entry.{Value, Number, Bytes}
 use Rattle.data_tables.specs.Fields.{field_bytes}
@@ -23,39 +25,26 @@ use Rattle.data_tables.specs.Compiling.{Answer, joined, sealed}
 
 -- ---- which fields it has
 
-abbrev pub signature_of : Table → List ℕ
-signature_of t.Facp = codes "FACP"
-signature_of t.Apic = codes "APIC"
-signature_of t.Mcfg = codes "MCFG"
-signature_of t.Hpet = codes "HPET"
-signature_of t.Srat = codes "SRAT"
-signature_of t.Slit = codes "SLIT"
-
 abbrev pub revision_of : Table → ℕ
-revision_of t.Facp = 6
-revision_of t.Apic = 5
-revision_of t.Mcfg = 1
-revision_of t.Hpet = 1
-revision_of t.Srat = 3
-revision_of t.Slit = 1
+revision_of table = (layout_of table).revision
 
 -- the type of its structure
 abbrev pub type_of_table : Table → ℕ
-type_of_table t.Srat = 1
-type_of_table table = 0
+type_of_table table = (layout_of table).structure
 
 -- the fields of its structure
 abbrev pub structure_behind : Table → List Row
-structure_behind table = type_rows ++ unwrap_or (structure_rows table (type_of_table table)) []
+structure_behind table = type_rows table ++ unwrap_or (structure_rows table (type_of_table table)) []
 
 -- what stands behind the fixed part: one entry, one structure, or two localities
+abbrev pub rows_by : Behind → Table → List Row
+rows_by b.Nothing table = []
+rows_by b.Entries table = entry_rows table
+rows_by b.Structures table = structure_behind table
+rows_by b.Localities table = locality_row 2 0 ∷ locality_row 2 1 ∷ []
+
 abbrev pub rows_behind : Table → List Row
-rows_behind t.Facp = []
-rows_behind t.Hpet = []
-rows_behind t.Mcfg = entry_rows
-rows_behind t.Apic = structure_behind t.Apic
-rows_behind t.Srat = structure_behind t.Srat
-rows_behind t.Slit = locality_row 2 0 ∷ locality_row 2 1 ∷ []
+rows_behind table = rows_by (behind_of table) table
 
 abbrev pub rows_of : Table → List Row
 rows_of table = header_rows ++ (fixed_rows table (revision_of table) ++ rows_behind table)
@@ -91,6 +80,7 @@ abbrev pub value_by : Table → Kind → Row → Value
 value_by table k.Text row = Bytes (filled row.width (text_of_width table row.width))
 value_by table k.CompilerId row = Bytes (codes "INTL")
 value_by table k.Bytes row = Bytes (filled row.width [])
+value_by table k.Guid row = Bytes (filled row.width [])
 value_by table (k.Locality number) row = Bytes (distances number)
 value_by table kind row = Number (number_of table row)
 
@@ -116,6 +106,7 @@ abbrev pub written_by : Table → Kind → Row → List ℕ
 written_by table k.Text row = quoted (text_of_width table row.width)
 written_by table k.CompilerId row = quoted (codes "INTL")
 written_by table k.Bytes row = pairs (filled row.width [])
+written_by table k.Guid row = codes "00000000-0000-0000-0000-000000000000"
 written_by table (k.Locality number) row = pairs (distances number)
 written_by table kind row = digits row.width (number_of table row)
 
@@ -151,28 +142,14 @@ line_of size label value = size_text size ++ label ++ codes " : " ++ value
 
 -- ---- its lines
 
+-- the name of this number among names, of which the first has the number of a place
+abbrev pub name_from : ℕ → ℕ → List (List ℕ) → Option (List ℕ)
+name_from place index [] = None
+name_from place index (name ∷ names) = cond (index == place) (Some name) (name_from (place + 1) index names)
+
 -- the generic addresses that have a heading, by their number
-abbrev pub facp_heading : ℕ → Option (List ℕ)
-facp_heading index =
-    cond (index == 0) (Some (codes "Reset Register")) (
-    cond (index == 1) (Some (codes "PM1A Event Block")) (
-    cond (index == 2) (Some (codes "PM1B Event Block")) (
-    cond (index == 3) (Some (codes "PM1A Control Block")) (
-    cond (index == 4) (Some (codes "PM1B Control Block")) (
-    cond (index == 5) (Some (codes "PM2 Control Block")) (
-    cond (index == 6) (Some (codes "PM Timer Block")) (
-    cond (index == 7) (Some (codes "GPE0 Block")) (
-    cond (index == 8) (Some (codes "GPE1 Block")) (
-    cond (index == 9) (Some (codes "Sleep Control Register")) (
-    cond (index == 10) (Some (codes "Sleep Status Register")) None))))))))))
-
-abbrev pub hpet_heading : ℕ → Option (List ℕ)
-hpet_heading index = cond (index == 0) (Some (codes "Timer Block Register")) None
-
 abbrev pub heading_of : Table → ℕ → Option (List ℕ)
-heading_of t.Facp index = facp_heading index
-heading_of t.Hpet index = hpet_heading index
-heading_of table index = None
+heading_of table index = name_from 0 index (layout_of table).headings
 
 -- a generic address begins with its space
 abbrev pub heading_before : Table → ℕ → Row → Option (List ℕ)

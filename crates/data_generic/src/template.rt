@@ -5,6 +5,7 @@ ghost use Rattle.std.specs.List.{flat_map};
 ghost use Rattle.aml_code.specs.Header.{filled};
 ghost use Rattle.iasl_backends.specs.Table.{pair};
 ghost use Rattle.data_layout.specs.Layout.{table_of};
+ghost use Rattle.data_layout.specs.Layouts.{facp_headings};
 ghost use Rattle.data_tables.specs.Compiling.{compiled, joined};
 ghost use Rattle.data_tables.specs.Entry.{Number, Bytes};
 ghost use Rattle.data_tables.specs.Entries.{written_values};
@@ -13,9 +14,10 @@ ghost use Rattle.data_tables.specs.Fields.{field_bytes};
 ghost use Rattle.data_generic.specs.Templates.{ComesTo, default_of, default_pieces, lines_of};
 ghost use Rattle.data_generic.specs.Templates as spec;
 
-use data_layout::row::{Kind, Row};
+use data_layout::row::{Behind, Kind, Row};
 use data_layout::table::{
-    Table, entry_rows, fixed_rows, header_rows, locality_row, structure_rows, table_of, type_rows,
+    Table, behind_of, entry_rows, fixed_rows, header_rows, locality_row, signature_of,
+    structure_rows, table_of, type_rows,
 };
 use data_tables::field::little_bytes;
 use data_tables::label::is_label;
@@ -29,37 +31,30 @@ use std::alloc::{AllocError, Global};
 
 // ---- values
 
-/// The signature of a table.
-pub fn signature_of(table: Table) -> &'static [u8]
-    ensures { result.now ≡ spec.signature_of table }
-{
-    match table {
-        Table::Facp => b"FACP",
-        Table::Apic => b"APIC",
-        Table::Mcfg => b"MCFG",
-        Table::Hpet => b"HPET",
-        Table::Srat => b"SRAT",
-        Table::Slit => b"SLIT",
-    }
-}
-
+#[tactic(auto, unfolding(data_layout::specs::Layout::layout_of))]
 fn revision_of(table: Table) -> u64
     ensures { result ≡ spec.revision_of table }
 {
     match table {
         Table::Facp => 6,
         Table::Apic => 5,
-        Table::Srat => 3,
-        Table::Mcfg | Table::Hpet | Table::Slit => 1,
+        Table::Tpm2 => 4,
+        Table::Srat | Table::Gtdt => 3,
+        Table::Spcr | Table::Pcct | Table::Tcpa => 2,
+        Table::Viot => 0,
+        _ => 1,
     }
 }
 
+#[tactic(auto, unfolding(data_layout::specs::Layout::layout_of))]
 fn type_of_table(table: Table) -> u64
     ensures { result ≡ spec.type_of_table table }
 {
     match table {
-        Table::Srat => 1,
-        Table::Facp | Table::Apic | Table::Mcfg | Table::Hpet | Table::Slit => 0,
+        Table::Srat | Table::Gtdt => 1,
+        Table::Viot => 3,
+        Table::Hest => 9,
+        _ => 0,
     }
 }
 
@@ -86,6 +81,7 @@ fn number_of(table: Table, row: &Row) -> u64
         Kind::Number => plain_number(row),
         Kind::Text
         | Kind::Bytes
+        | Kind::Guid
         | Kind::Reserved
         | Kind::TableLength
         | Kind::Checksum
@@ -132,7 +128,7 @@ fn plain_bytes(alloc: Global, table: Table, row: &Row) -> Result<Option<Vec<u8>>
     let bytes = match row.kind {
         Kind::Text => filled(alloc, row.width, text_of_width(table, row.width)),
         Kind::CompilerId => b"INTL".to_vec(alloc),
-        Kind::Bytes => filled(alloc, row.width, &[]),
+        Kind::Bytes | Kind::Guid => filled(alloc, row.width, &[]),
         Kind::Locality(number) => distances(number).to_vec(alloc),
         Kind::Number
         | Kind::Reserved
@@ -214,6 +210,7 @@ fn put_value(alloc: Global, out: &mut Vec<u8>, table: Table, row: &Row) -> Resul
         Kind::Text => put_quoted(out, text_of_width(table, row.width)),
         Kind::CompilerId => put_quoted(out, b"INTL"),
         Kind::Bytes => put_zeros(alloc, out, row.width),
+        Kind::Guid => put(out, b"00000000-0000-0000-0000-000000000000"),
         Kind::Locality(number) => put_pairs(out, distances(number)),
         Kind::Number
         | Kind::Reserved
@@ -306,7 +303,7 @@ fn heading_line(alloc: Global, name: &[u8]) -> Result<Text, AllocError>
 // ---- the lines
 
 fn facp_heading(index: usize) -> Option<&'static [u8]>
-    ensures heading { option_copied result ≡ spec.facp_heading index }
+    ensures heading { option_copied result ≡ spec.name_from 0 index facp_headings }
     ensures within { IfSome result (λ name. index < 11) }
 {
     match index {
@@ -325,25 +322,28 @@ fn facp_heading(index: usize) -> Option<&'static [u8]>
     }
 }
 
-fn hpet_heading(index: usize) -> Option<&'static [u8]>
-    ensures heading { option_copied result ≡ spec.hpet_heading index }
+// The heading of the only generic address.
+fn only_heading(index: usize, name: &'static [u8]) -> Option<&'static [u8]>
+    ensures heading { option_copied result ≡ spec.name_from 0 index (name.now ∷ []) }
     ensures within { IfSome result (λ name. index < 11) }
 {
-    match index {
-        0 => Some(b"Timer Block Register"),
-        _ => None,
-    }
+    if index == 0 { Some(name) } else { None }
 }
 
 // The heading of this number, where the table has one.
+#[tactic(auto, unfolding(data_layout::specs::Layout::layout_of))]
 fn heading_of(table: Table, index: usize) -> Option<&'static [u8]>
     ensures heading { option_copied result ≡ spec.heading_of table index }
     ensures within { IfSome result (λ name. index < 11) }
 {
     match table {
         Table::Facp => facp_heading(index),
-        Table::Hpet => hpet_heading(index),
-        Table::Apic | Table::Mcfg | Table::Srat | Table::Slit => None,
+        Table::Hpet => only_heading(index, b"Timer Block Register"),
+        Table::Spcr => only_heading(index, b"Serial Port Register"),
+        Table::Erst | Table::Einj => only_heading(index, b"Register Region"),
+        Table::Pcct => only_heading(index, b"Doorbell Register"),
+        Table::Hest => only_heading(index, b"Error Status Address"),
+        _ => None,
     }
 }
 
@@ -435,7 +435,7 @@ impl Writer {
         ensures { OnOk result ((more : List SpecRow) → told self.old (structure_behind self.old.table ++ more) ≡ told self.new more) }
     {
         let table = self.table;
-        self.add_rows(type_rows())?;
+        self.add_rows(type_rows(table))?;
         match structure_rows(table, type_of_table(table)) {
             Some(rows) => self.add_rows(rows),
             None => Ok(()),
@@ -446,11 +446,11 @@ impl Writer {
     fn add_behind(&mut self) -> Result<(), AllocError>
         ensures { OnOk result ((more : List SpecRow) → told self.old (rows_behind self.old.table ++ more) ≡ told self.new more) }
     {
-        match self.table {
-            Table::Facp | Table::Hpet => Ok(()),
-            Table::Mcfg => self.add_rows(entry_rows()),
-            Table::Apic | Table::Srat => self.add_structure(),
-            Table::Slit => self.add_rows(&[locality_row(2, 0), locality_row(2, 1)]),
+        match behind_of(self.table) {
+            Behind::Nothing => Ok(()),
+            Behind::Entries => self.add_rows(entry_rows(self.table)),
+            Behind::Structures => self.add_structure(),
+            Behind::Localities => self.add_rows(&[locality_row(2, 0), locality_row(2, 1)]),
         }
     }
 }
@@ -470,17 +470,6 @@ fn unsealed(alloc: Global, table: Table) -> Result<Pieces, AllocError>
     Ok(writer.pieces)
 }
 
-// The template of a table.
-fn template_of(alloc: Global, table: Table) -> Result<Pieces, AllocError>
-    ensures exact { IfOk result (λ pieces. pieces ≡ default_pieces table) }
-    ensures compiles { IfOk result (λ pieces. ComesTo (compiled (lines_of pieces)) (joined pieces)) }
-    ensures reads { IfOk result (λ pieces. ReadsAs (joined pieces) (written_values (lines_of pieces))) }
-    ensures one { IfOk result (λ pieces. (bytes : List ℕ) → All (λ b. b < 256) bytes → ReadsAs bytes (written_values (lines_of pieces)) →
-        bytes ≡ joined pieces) }
-{
-    seal(alloc, unsealed(alloc, table)?)
-}
-
 /// The template of the table of a signature in upper case: a piece for each line, with the bytes of the table.
 pub fn default_lines(alloc: Global, signature: &[u8]) -> Result<Pieces, AllocError>
     requires { is_some (table_of signature.now) ≡ true }
@@ -496,7 +485,7 @@ pub fn default_lines(alloc: Global, signature: &[u8]) -> Result<Pieces, AllocErr
         bytes ≡ joined pieces) }
 {
     match table_of(signature) {
-        Some(table) => template_of(alloc, table),
+        Some(table) => seal(alloc, unsealed(alloc, table)?),
         None => Ok(List::new(alloc)),
     }
 }

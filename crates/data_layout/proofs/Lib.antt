@@ -1,2 +1,2 @@
-pub mod Fadt
 pub mod Bits
+pub mod Lookup

@@ -1,104 +1,137 @@
 -- Which fields a table has.
-use Rattle.std.specs.Prelude.{ℕ, ◌-◌, ◌/◌, ◌%◌, ◌^◌, ◌==◌, ◌||◌, nat_le, cond, List, [], ◌∷◌, codes, Some, None}
+use Rattle.std.specs.Prelude.{ℕ, ◌-◌, ◌/◌, ◌%◌, ◌^◌, ◌==◌, ◌||◌, nat_le, not, Bool, true, false, cond, List, [], ◌∷◌, codes, Some, None}
 use Rattle.std.specs.declared.option.Option.{Option}
+use Rattle.std.specs.Option.{is_some}
 use Rattle.std.specs.Str.{bytes_eq}
 use Rattle.data_layout.specs.declared.row.Row.{Row}
 use Rattle.data_layout.specs.declared.row.Flag.{Flag}
 use Rattle.data_layout.specs.declared.row.Kind.TheVariants as k
 use Rattle.data_layout.specs.declared.row.FlagSet.{FlagSet}
 use Rattle.data_layout.specs.declared.row.FlagSet.TheVariants as f
+use Rattle.data_layout.specs.declared.row.Size.{Size}
+use Rattle.data_layout.specs.declared.row.Behind.{Behind}
 use Rattle.data_layout.specs.declared.table.Table.{Table}
 use Rattle.data_layout.specs.declared.table.Table.TheVariants as t
-use Rattle.data_layout.specs.declared.rows.TheConstants.{HEADER, FACP, APIC, MCFG, HPET, SRAT, SLIT, MCFG_ENTRY, STRUCTURE_TYPE, LOCALITY}
-use Rattle.data_layout.specs.declared.rows.TheConstants.{LOCAL_APIC, IO_APIC, INTERRUPT_SOURCE_OVERRIDE, NMI_SOURCE, LOCAL_APIC_NMI}
-use Rattle.data_layout.specs.declared.rows.TheConstants.{LOCAL_APIC_ADDRESS_OVERRIDE, LOCAL_X2APIC, LOCAL_X2APIC_NMI, GIC_CPU_INTERFACE}
-use Rattle.data_layout.specs.declared.rows.TheConstants.{GIC_DISTRIBUTOR, GIC_MSI_FRAME, GIC_REDISTRIBUTOR, GIC_TRANSLATION_SERVICE}
-use Rattle.data_layout.specs.declared.rows.TheConstants.{PROCESSOR_AFFINITY, MEMORY_AFFINITY, X2APIC_AFFINITY, GICC_AFFINITY}
-use Rattle.data_layout.specs.declared.rows.TheConstants.{TRANSLATION_SERVICE_AFFINITY, INITIATOR_AFFINITY}
+use Rattle.data_layout.specs.Layouts.{Layout, Structure, layouts, slit_layout}
+use Rattle.data_layout.specs.declared.rows.TheConstants.{HEADER, LOCALITY}
 use Rattle.data_layout.specs.declared.rows.TheConstants.{FADT_FLAGS, ARM_FLAGS, MADT_FLAGS, PROCESSOR_FLAGS, INTERRUPT_FLAGS}
-use Rattle.data_layout.specs.declared.rows.TheConstants.{PAGE_PROTECT_FLAGS, AFFINITY_FLAGS, MEMORY_FLAGS}
+use Rattle.data_layout.specs.declared.rows.TheConstants.{PAGE_PROTECT_FLAGS, AFFINITY_FLAGS, MEMORY_FLAGS, EMULATED_FLAGS, IMAGE_FLAGS}
+use Rattle.data_layout.specs.declared.rows.TheConstants.{INSTRUCTION_FLAGS, DOORBELL_FLAGS, CHANNEL_FLAGS, TIMER_FLAGS}
+use Rattle.data_layout.specs.declared.rows.TheConstants.{WATCHDOG_FLAGS, ADVANCED_ERROR_FLAGS, RANGE_FLAGS, DEVICE_FLAGS}
+use Rattle.data_layout.specs.declared.rows.TheConstants.{WINDOW_FLAGS, CAPABILITY_FLAGS}
+
+-- ---- tables and their layouts
+
+abbrev pub signature_of : Table → List ℕ
+signature_of t.Facp = codes "FACP"
+signature_of t.Apic = codes "APIC"
+signature_of t.Mcfg = codes "MCFG"
+signature_of t.Hpet = codes "HPET"
+signature_of t.Srat = codes "SRAT"
+signature_of t.Slit = codes "SLIT"
+signature_of t.Waet = codes "WAET"
+signature_of t.Bert = codes "BERT"
+signature_of t.Bgrt = codes "BGRT"
+signature_of t.Spcr = codes "SPCR"
+signature_of t.Tpm2 = codes "TPM2"
+signature_of t.Erst = codes "ERST"
+signature_of t.Einj = codes "EINJ"
+signature_of t.Pcct = codes "PCCT"
+signature_of t.Tcpa = codes "TCPA"
+signature_of t.Gtdt = codes "GTDT"
+signature_of t.Hest = codes "HEST"
+signature_of t.Viot = codes "VIOT"
+signature_of t.Nfit = codes "NFIT"
 
 -- the table of a signature
+abbrev pub find_table : List ℕ → List Layout → Option Table
+find_table signature [] = None
+find_table signature (layout ∷ others) = cond (bytes_eq signature layout.signature) (Some layout.table) (find_table signature others)
+
 abbrev pub table_of : List ℕ → Option Table
-table_of signature =
-    cond (bytes_eq signature (codes "FACP")) (Some t.Facp) (
-    cond (bytes_eq signature (codes "APIC")) (Some t.Apic) (
-    cond (bytes_eq signature (codes "MCFG")) (Some t.Mcfg) (
-    cond (bytes_eq signature (codes "HPET")) (Some t.Hpet) (
-    cond (bytes_eq signature (codes "SRAT")) (Some t.Srat) (
-    cond (bytes_eq signature (codes "SLIT")) (Some t.Slit) None)))))
+table_of signature = find_table signature layouts
+
+-- the layout of a table: the one with its signature
+abbrev pub find_layout : List ℕ → List Layout → Layout
+find_layout signature [] = slit_layout
+find_layout signature (layout ∷ others) = cond (bytes_eq signature layout.signature) layout (find_layout signature others)
+
+unfoldable pub layout_of : Table → Layout
+layout_of table = find_layout (signature_of table) layouts
+
+-- ---- the header and the fixed part
 
 -- the fields of the header
 unfoldable pub header_rows : List Row
 header_rows = HEADER.now
 
--- how many bytes a FADT of each known revision has
-abbrev pub fadt_bytes : ℕ → Option ℕ
-fadt_bytes revision =
-    cond (revision == 1) (Some 116)
-    (cond (revision == 3 || revision == 4) (Some 244) (cond (revision == 5) (Some 268) (cond (revision == 6) (Some 276) None)))
+-- how many bytes a table of this revision has, where it is one of these
+abbrev pub bytes_in : ℕ → List Size → Option ℕ
+bytes_in revision [] = None
+bytes_in revision (size ∷ sizes) = cond (revision == size.revision) (Some size.bytes) (bytes_in revision sizes)
+
+abbrev pub is_empty : List Size → Bool
+is_empty [] = true
+is_empty (size ∷ sizes) = false
+
+-- a layout without sizes is known in each revision
+abbrev pub knows_by : List Size → ℕ → Bool
+knows_by sizes revision = is_empty sizes || is_some (bytes_in revision sizes)
+
+abbrev pub knows_revision : Table → ℕ → Bool
+knows_revision table revision = knows_by (layout_of table).sizes revision
+
+-- whether the revision chooses how many bytes a table has
+abbrev pub is_sized : Table → Bool
+is_sized table = not (is_empty (layout_of table).sizes)
 
 -- the first so many bytes of a layout
 abbrev pub first_bytes : ℕ → List Row → List Row
 first_bytes size [] = []
 first_bytes size (row ∷ rows) = cond (nat_le row.width size) (row ∷ first_bytes (size - row.width) rows) []
 
-abbrev pub fadt_rows_of : Option ℕ → List Row
-fadt_rows_of None = []
-fadt_rows_of (Some size) = first_bytes (size - 36) FACP.now
+-- those of a table that has so many bytes, of which the header has 36
+abbrev pub rows_of_size : List Row → Option ℕ → List Row
+rows_of_size rows None = []
+rows_of_size rows (Some size) = first_bytes (size - 36) rows
 
--- the fields of a FADT behind its header: the first so many bytes of the whole layout
-unfoldable pub fadt_rows : ℕ → List Row
-fadt_rows revision = fadt_rows_of (fadt_bytes revision)
+-- all fields; or where the revision chooses the size, as many as have room
+abbrev pub rows_by : List Size → List Row → ℕ → List Row
+rows_by sizes rows revision = cond (is_empty sizes) rows (rows_of_size rows (bytes_in revision sizes))
 
 -- the fields of the fixed part behind the header
 unfoldable pub fixed_rows : Table → ℕ → List Row
-fixed_rows t.Facp revision = fadt_rows revision
-fixed_rows t.Apic revision = APIC.now
-fixed_rows t.Mcfg revision = MCFG.now
-fixed_rows t.Hpet revision = HPET.now
-fixed_rows t.Srat revision = SRAT.now
-fixed_rows t.Slit revision = SLIT.now
+fixed_rows table revision = rows_by (layout_of table).sizes (layout_of table).fixed revision
 
--- the fields of an entry of the MCFG table
-unfoldable pub entry_rows : List Row
-entry_rows = MCFG_ENTRY.now
+-- ---- behind the fixed part
 
--- what a structure begins with: its type
-unfoldable pub type_rows : List Row
-type_rows = STRUCTURE_TYPE.now
+-- what stands there
+abbrev pub behind_of : Table → Behind
+behind_of table = (layout_of table).behind
 
--- the fields of a structure of the MADT behind its type
-unfoldable pub madt_rows : ℕ → Option (List Row)
-madt_rows n =
-    cond (n == 0) (Some LOCAL_APIC.now)
-    (cond (n == 1) (Some IO_APIC.now) (cond (n == 2) (Some INTERRUPT_SOURCE_OVERRIDE.now) (cond (n == 3) (Some NMI_SOURCE.now) (
-    cond (n == 4) (Some LOCAL_APIC_NMI.now)
-    (cond (n == 5) (Some LOCAL_APIC_ADDRESS_OVERRIDE.now)
-    (cond (n == 9) (Some LOCAL_X2APIC.now) (cond (n == 10) (Some LOCAL_X2APIC_NMI.now) (
-    cond (n == 11) (Some GIC_CPU_INTERFACE.now)
-    (cond (n == 12) (Some GIC_DISTRIBUTOR.now) (cond (n == 13) (Some GIC_MSI_FRAME.now) (cond (n == 14) (Some GIC_REDISTRIBUTOR.now) (
-    cond (n == 15) (Some GIC_TRANSLATION_SERVICE.now) None))))))))))))
+-- the fields of an entry, where the table has entries
+abbrev pub entry_rows : Table → List Row
+entry_rows table = (layout_of table).entries
 
--- the fields of a structure of the SRAT behind its type
-unfoldable pub srat_rows : ℕ → Option (List Row)
-srat_rows n =
-    cond (n == 0) (Some PROCESSOR_AFFINITY.now) (cond (n == 1) (Some MEMORY_AFFINITY.now) (cond (n == 2) (Some X2APIC_AFFINITY.now) (
-    cond (n == 3) (Some GICC_AFFINITY.now)
-    (cond (n == 4) (Some TRANSLATION_SERVICE_AFFINITY.now) (cond (n == 5) (Some INITIATOR_AFFINITY.now) None)))))
+-- what a structure begins with, its type, where the table has structures
+abbrev pub type_rows : Table → List Row
+type_rows table = (layout_of table).types
+
+-- the fields of the structure of a type behind its type
+abbrev pub find_structure : ℕ → List Structure → Option (List Row)
+find_structure number [] = None
+find_structure number (structure ∷ structures) = cond (number == structure.number) (Some structure.rows)
+    (find_structure number structures)
 
 -- the fields of a structure behind its type, where the table has structures of this type
 abbrev pub structure_rows : Table → ℕ → Option (List Row)
-structure_rows t.Apic n = madt_rows n
-structure_rows t.Srat n = srat_rows n
-structure_rows t.Facp n = None
-structure_rows t.Mcfg n = None
-structure_rows t.Hpet n = None
-structure_rows t.Slit n = None
+structure_rows table number = find_structure number (layout_of table).structures
 
 -- the field of a locality of the SLIT: a byte for each of so many localities
 abbrev pub locality_row : ℕ → ℕ → Row
 locality_row count number = record { label = LOCALITY; width = count; kind = k.Locality number; flags = f.None }
+
+-- ---- flags
 
 -- the flags that decoded lines may tell
 unfoldable pub flags_of : FlagSet → List Flag
@@ -111,6 +144,18 @@ flags_of f.Interrupt = INTERRUPT_FLAGS.now
 flags_of f.PageProtect = PAGE_PROTECT_FLAGS.now
 flags_of f.Affinity = AFFINITY_FLAGS.now
 flags_of f.Memory = MEMORY_FLAGS.now
+flags_of f.Emulated = EMULATED_FLAGS.now
+flags_of f.Image = IMAGE_FLAGS.now
+flags_of f.Instruction = INSTRUCTION_FLAGS.now
+flags_of f.Doorbell = DOORBELL_FLAGS.now
+flags_of f.Channel = CHANNEL_FLAGS.now
+flags_of f.Timer = TIMER_FLAGS.now
+flags_of f.Watchdog = WATCHDOG_FLAGS.now
+flags_of f.AdvancedError = ADVANCED_ERROR_FLAGS.now
+flags_of f.Range = RANGE_FLAGS.now
+flags_of f.Device = DEVICE_FLAGS.now
+flags_of f.Window = WINDOW_FLAGS.now
+flags_of f.Capability = CAPABILITY_FLAGS.now
 
 -- the bits of a field that a flag tells
 abbrev pub flag_value : ℕ → Flag → ℕ

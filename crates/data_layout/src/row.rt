@@ -23,6 +23,18 @@ pub enum FlagSet {
     PageProtect,
     Affinity,
     Memory,
+    Emulated,
+    Image,
+    Instruction,
+    Doorbell,
+    Channel,
+    Timer,
+    Watchdog,
+    AdvancedError,
+    Range,
+    Device,
+    Window,
+    Capability,
 }
 
 /// How the value of a field is written and kept.
@@ -34,6 +46,8 @@ pub enum Kind {
     Text,
     /// So many bytes.
     Bytes,
+    /// A UUID, which has 16 bytes.
+    Guid,
     /// The number 0.
     Reserved,
     /// A number in whose place the number of the table's bytes stands.
@@ -66,4 +80,24 @@ pub struct Row {
     pub kind: Kind,
     /// The flags that decoded lines below it may tell.
     pub flags: FlagSet,
+}
+
+/// What stands behind the fixed part of a table.
+#[derive(Clone, Copy, PartialEq, Eq, Debug)]
+pub enum Behind {
+    Nothing,
+    /// Entries of one form.
+    Entries,
+    /// Structures, each with its type.
+    Structures,
+    /// A row for each of so many localities as the fixed part says.
+    Localities,
+}
+
+/// How many bytes a table has in a revision, where the revision chooses it.
+#[derive(Clone, Copy, Debug)]
+pub struct Size {
+    pub revision: u64,
+    /// Those of the header and of the fixed part.
+    pub bytes: u64,
 }

@@ -1,7 +1,8 @@
 -- All fields behind the header are read back: those of the fixed part, and then entries, structures or rows.
-use Rattle.std.proofs.Common.{◌≡◌, ◌<◌, ◌+◌, ◌==◌, ◌&&◌, ℕ, Bool, true, false, cond, nat_lt, List, [], ◌∷◌, ◌++◌, length, map, Option, Some, Result, Ok, Err, refl, sym, ap, subst, ◌∙◌, arith, length-append}
+use Rattle.std.proofs.Common.{◌≡◌, ◌<◌, ◌+◌, ℕ, Bool, true, false, cond, nat_lt, List, [], ◌∷◌, ◌++◌, length, map, Option, Some, Result, Ok, Err, refl, sym, ap, subst, ◌∙◌, arith}
 use Rattle.std.proofs.lemmas.Grind.{common_steps}
 use Rattle.std.specs.Option.{unwrap_or}
+use Rattle.std.proofs.lemmas.Bool.{and_parts}
 use Rattle.data_layout.specs.declared.row.Row.{Row}
 use Rattle.data_layout.specs.declared.row.Kind.{Kind}
 use Rattle.data_layout.specs.declared.row.Kind.TheVariants as k
@@ -15,9 +16,9 @@ use Rattle.data_tables.specs.Walk.{Field}
 use Rattle.data_tables.specs.Compiling.{piece_of, joined}
 use Rattle.data_tables.specs.Entry.{Entry}
 use Rattle.data_tables.specs.Entries.{entry_of, entries_from}
-use Rattle.data_tables.specs.Reading.{bytes_at, number_of, number_read, rows_read, size_of, Stands, Stand, Tail, Entries, Structures, Localities, IsRest, entry, structure, locality}
+use Rattle.data_tables.specs.Reading.{bytes_at, number_of, rows_read, size_of, Stands, Stand, States, State, type_read, Tail, Entries, Structures, Localities, IsRest, entry, structure, locality}
 use Rattle.data_tables.proofs.Steps.{FieldsOf}
-use Rattle.data_tables.proofs.Plain.{are_plain, plain_first, states, states_size, structure_parts, of_structure, entries_plain, type_one}
+use Rattle.data_tables.proofs.Plain.{is_plain, are_plain, plain_first, states, states_size, structure_plain, structure_states, entries_plain, IsType, type_one, first_type}
 use Rattle.data_tables.proofs.ReadBack.{part, Reads, IsReadFrom, plain_spelled, type_spelled, locality_spelled, bytes_here, rows_step, shifted, behind_plain, first_is, entries_first, bytes_first, within, at_end, at_row}
 
 -- nothing is read of a part without rows but what comes after it
@@ -36,77 +37,88 @@ closed_by : (table : Table) (bytes before tail : List ℕ) (after : Tail) (numbe
 closed_by table bytes before tail after number all others entries e f g r =
     subst (λ (es : List Entry). Reads table bytes [] after number (length before) es) (sym (f ∙ g)) (closed table bytes before tail after number entries e r)
 
+-- the first field of an entry
+record IsEntry (table : Table) : Type 0 where
+  first : Row
+  others : List Row
+  are : entry_rows table ≡ first ∷ others
+  plain : is_plain first.kind first.width ≡ true
+  others_plain : are_plain others ≡ true
+
+entry_of_rows : (table : Table) (revision : ℕ) (row : Row) (rest : Part) (rows : List Row) → entry_rows table ≡ rows → are_plain rows ≡ true → first_of (part table revision [] a.Entries) rows ≡ Ok (row, rest) → IsEntry table
+entry_of_rows table revision row rest [] e p h = let f : ◌≡◌ {A = Result Opened ℕ} (Err 6092) (Ok (row, rest)) = h in absurd cc
+entry_of_rows table revision row rest (first ∷ others) e p h = let q = plain_first first others p in record { first = first; others = others; are = e; plain = q.0; others_plain = q.1 }
+
 at_entry : (table : Table) (revision number : ℕ) (bytes before : List ℕ) (field : Field) (fields : List Field) → bytes ≡ before ++ joined (map piece_of (field ∷ fields)) → FieldsOf (part table revision [] a.Entries) (field ∷ fields)
     → ((rows : List Row) (before' : List ℕ) → are_plain rows ≡ true → bytes ≡ before' ++ joined (map piece_of fields) → IsReadFrom table revision bytes a.Entries rows (number + 1) before' fields) → Reads table bytes [] Entries number (length before) (entries_from number (field ∷ fields))
 at_entry table revision number bytes before field fields e h ih =
-    let row = entries_plain.first in
-    let rows = entries_plain.others in
+    let d = entry_of_rows table revision field.row h.0 (entry_rows table) refl (entries_plain table) h.1 in
+    let row = d.first in
+    let rows = d.others in
     let here = field_bytes row field.value in
     let tail = joined (map piece_of fields) in
-    let plain = plain_first row rows (subst (λ (rs : List Row). are_plain rs ≡ true) entries_plain.are entries_plain.plain) in
-    let opened : next_field (part table revision [] a.Entries) ≡ Ok (row, part table revision rows a.Entries) = ap (first_of (part table revision [] a.Entries)) entries_plain.are in
+    let opened : next_field (part table revision [] a.Entries) ≡ Ok (row, part table revision rows a.Entries) = ap (first_of (part table revision [] a.Entries)) d.are in
     let f = first_is (part table revision [] a.Entries) (part table revision rows a.Entries) row field fields opened h in
-    let s = plain_spelled bytes table row field.line.value field.value plain.0 f.given in
+    let s = plain_spelled bytes table row field.line.value field.value d.plain f.given in
     let whole : bytes ≡ before ++ (here ++ tail) = e ∙ ap (λ (bs : List ℕ). before ++ bs) (bytes_first row field fields f.row_is) in
-    let left : FieldsOf (part table revision rows a.Entries) fields = subst (λ (q : Part). FieldsOf q fields) (behind_plain (part table revision rows a.Entries) row.kind row.width (number_of_value field.value) plain.0) f.tail in
-    let r = ih rows (before ++ here) plain.1 (shifted bytes before here tail whole) left in
+    let left : FieldsOf (part table revision rows a.Entries) fields = subst (λ (q : Part). FieldsOf q fields) (behind_plain (part table revision rows a.Entries) row.kind row.width (number_of_value field.value) d.plain) f.tail in
+    let r = ih rows (before ++ here) d.others_plain (shifted bytes before here tail whole) left in
     let r1 = rows_step table bytes before here tail row rows Entries (number + 1) field.value (entries_from (number + 1) fields) s whole r in
-    let r2 : Reads table bytes entry_rows Entries (number + 1) (length before) (entry_of (number + 1) row field.value ++ entries_from (number + 1) fields) = subst (λ (rs : List Row). Reads table bytes rs Entries (number + 1) (length before) (entry_of (number + 1) row field.value ++ entries_from (number + 1) fields)) (sym entries_plain.are) r1 in
-    closed_by table bytes before (here ++ tail) Entries number (entries_from number (field ∷ fields)) (entry_of (number + 1) row field.value ++ entries_from (number + 1) fields) (rows_read (number + 1) bytes (length before) entry_rows ++ r2.more) whole (entries_first number row field fields true f.row_is f.begins_is) r2.values (entry number (length before) r2.more r2.stand r2.rest)
+    let r2 : Reads table bytes (entry_rows table) Entries (number + 1) (length before) (entry_of (number + 1) row field.value ++ entries_from (number + 1) fields) = subst (λ (rs : List Row). Reads table bytes rs Entries (number + 1) (length before) (entry_of (number + 1) row field.value ++ entries_from (number + 1) fields)) (sym d.are) r1 in
+    closed_by table bytes before (here ++ tail) Entries number (entries_from number (field ∷ fields)) (entry_of (number + 1) row field.value ++ entries_from (number + 1) fields) (rows_read (number + 1) bytes (length before) (entry_rows table) ++ r2.more) whole (entries_first number row field fields true f.row_is f.begins_is) r2.values (entry number (length before) r2.more r2.stand r2.rest)
 
-and_both : (b c : Bool) → (b && c) ≡ true → (b ≡ true) × (c ≡ true)
-and_both true c e = (refl, e)
-and_both false c e = absurd cc
+stated_at : (bytes : List ℕ) (size : ℕ) (kind : Kind) (here : List ℕ) → states size kind ≡ true → Stands bytes kind here → States size kind here
+stated_at bytes size k.Number here e h = tt
+stated_at bytes size k.Text here e h = tt
+stated_at bytes size k.Bytes here e h = tt
+stated_at bytes size k.Guid here e h = tt
+stated_at bytes size k.Reserved here e h = tt
+stated_at bytes size k.TableLength here e h = tt
+stated_at bytes size k.Checksum here e h = tt
+stated_at bytes size k.CompilerId here e h = tt
+stated_at bytes size k.CompilerRevision here e h = tt
+stated_at bytes size (k.Length stated) here e h = let same : stated ≡ size = grind (arith, common_steps) in h ∙ same
+stated_at bytes size k.Revision here e h = tt
+stated_at bytes size k.StructureType here e h = tt
+stated_at bytes size k.Localities here e h = tt
+stated_at bytes size (k.Locality n) here e h = tt
 
-stated_at : (bytes : List ℕ) (offset size w : ℕ) (kind : Kind) → states size kind w ≡ true → Stands bytes kind (bytes_at bytes offset w) → number_read bytes offset 1 ≡ size
-stated_at bytes offset size w k.Number e h = absurd cc
-stated_at bytes offset size w k.Text e h = absurd cc
-stated_at bytes offset size w k.Bytes e h = absurd cc
-stated_at bytes offset size w k.Reserved e h = absurd cc
-stated_at bytes offset size w k.TableLength e h = absurd cc
-stated_at bytes offset size w k.Checksum e h = absurd cc
-stated_at bytes offset size w k.CompilerId e h = absurd cc
-stated_at bytes offset size w k.CompilerRevision e h = absurd cc
-stated_at bytes offset size w (k.Length stated) e h =
-    let both = and_both (stated == size) (w == 1) e in
-    let a : stated ≡ size = let b = both.0 in grind (arith, common_steps) in
-    let c : w ≡ 1 = let b = both.1 in grind (arith, common_steps) in
-    ap (λ (n : ℕ). number_read bytes offset n) (sym c) ∙ h ∙ a
-stated_at bytes offset size w k.Revision e h = absurd cc
-stated_at bytes offset size w k.StructureType e h = absurd cc
-stated_at bytes offset size w k.Localities e h = absurd cc
-stated_at bytes offset size w (k.Locality n) e h = absurd cc
+stated : (bytes : List ℕ) (size offset : ℕ) (rows : List Row) → states_size size rows ≡ true → Stand bytes offset rows → State size bytes offset rows
+stated bytes size offset [] e h = tt
+stated bytes size offset (row ∷ rows) e h =
+    let each = and_parts (states size row.kind) _ e in
+    (stated_at bytes size row.kind (bytes_at bytes offset row.width) each.0 h.0, stated bytes size (offset + row.width) rows each.1 h.1)
 
-stated_size : (bytes : List ℕ) (offset : ℕ) (rows : List Row) → states_size rows ≡ true → Stand bytes offset rows → number_read bytes offset 1 ≡ 1 + size_of rows
-stated_size bytes offset [] e h = absurd cc
-stated_size bytes offset (row ∷ rows) e h = stated_at bytes offset (1 + (row.width + size_of rows)) row.width row.kind e h.0
+-- the type that a structure begins with
+typed : (table : Table) (revision : ℕ) (row : Row) (rest : Part) (rows : List Row) → type_rows table ≡ rows → first_of (part table revision [] a.Structures) rows ≡ Ok (row, rest) → IsType (type_rows table)
+typed table revision row rest [] e h = let f : ◌≡◌ {A = Result Opened ℕ} (Err 6092) (Ok (row, rest)) = h in absurd cc
+typed table revision row rest (first ∷ others) e h = type_one (type_rows table) (first_type table first others e)
 
 at_structure : (table : Table) (revision number : ℕ) (bytes before : List ℕ) (field : Field) (fields : List Field) → bytes ≡ before ++ joined (map piece_of (field ∷ fields)) → FieldsOf (part table revision [] a.Structures) (field ∷ fields)
     → ((rows : List Row) (before' : List ℕ) → are_plain rows ≡ true → bytes ≡ before' ++ joined (map piece_of fields) → IsReadFrom table revision bytes a.Structures rows (number + 1) before' fields) → Reads table bytes [] Structures number (length before) (entries_from number (field ∷ fields))
 at_structure table revision number bytes before field fields e h ih =
-    let row = type_one.first in
+    let one = typed table revision field.row h.0 (type_rows table) refl h.1 in
+    let row = one.first in
     let here = field_bytes row field.value in
     let tail = joined (map piece_of fields) in
-    let opened : next_field (part table revision [] a.Structures) ≡ Ok (row, part table revision [] a.Structures) = ap (first_of (part table revision [] a.Structures)) type_one.are in
+    let opened : next_field (part table revision [] a.Structures) ≡ Ok (row, part table revision [] a.Structures) = ap (first_of (part table revision [] a.Structures)) one.are in
     let f = first_is (part table revision [] a.Structures) (part table revision [] a.Structures) row field fields opened h in
-    let t = type_spelled bytes table row field.line.value field.value type_one.kind_is f.given in
+    let t = type_spelled bytes table row field.line.value field.value one.kind_is f.given in
     let whole : bytes ≡ before ++ (here ++ tail) = e ∙ ap (λ (bs : List ℕ). before ++ bs) (bytes_first row field fields f.row_is) in
     let chosen : behind (part table revision [] a.Structures) row.kind (number_of_value field.value) ≡ part table revision t.rows a.Structures =
-    ap (λ (q : Kind). behind (part table revision [] a.Structures) q (number_of_value field.value)) type_one.kind_is
+    ap (λ (q : Kind). behind (part table revision [] a.Structures) q (number_of_value field.value)) one.kind_is
     ∙ ap (λ (o : Option (List Row)). part table revision (unwrap_or o []) a.Structures) t.known in
     let left : FieldsOf (part table revision t.rows a.Structures) fields = subst (λ (q : Part). FieldsOf q fields) chosen f.tail in
-    let parts = structure_parts t.rows (of_structure table (number_of_value field.value) t.rows t.known) in
-    let r = ih t.rows (before ++ here) parts.0 (shifted bytes before here tail whole) left in
+    let r = ih t.rows (before ++ here) (structure_plain table (number_of_value field.value) t.rows t.known) (shifted bytes before here tail whole) left in
     let r1 = rows_step table bytes before here tail row t.rows Structures (number + 1) field.value (entries_from (number + 1) fields) t.spelled whole r in
-    let r2 : Reads table bytes (type_rows ++ t.rows) Structures (number + 1) (length before) (entry_of (number + 1) row field.value ++ entries_from (number + 1) fields) = subst (λ (rs : List Row). Reads table bytes (rs ++ t.rows) Structures (number + 1) (length before) (entry_of (number + 1) row field.value ++ entries_from (number + 1) fields)) (sym type_one.are) r1 in
-    let one : length here ≡ 1 = t.spelled.width ∙ type_one.width_is in
-    let next : length (before ++ here) ≡ length before + 1 = length-append before here ∙ ap (λ (m : ℕ). length before + m) one in
-    let number_is : number_read bytes (length before) 1 ≡ number_of_value field.value = ap number_of (bytes_here bytes before here tail 1 whole one) ∙ t.number in
-    let known : structure_rows table (number_read bytes (length before) 1) ≡ Some t.rows = ap (structure_rows table) number_is ∙ t.known in
-    let size : size_of (type_rows ++ t.rows) ≡ 1 + size_of t.rows = ap (λ (rs : List Row). size_of (rs ++ t.rows)) type_one.are ∙ ap (λ (m : ℕ). m + size_of t.rows) type_one.width_is in
-    let stated : number_read bytes (length before + 1) 1 ≡ size_of (type_rows ++ t.rows) = ap (λ (o : ℕ). number_read bytes o 1) (sym next) ∙ stated_size bytes (length (before ++ here)) t.rows parts.1 r.stand ∙ sym size in
-    closed_by table bytes before (here ++ tail) Structures number (entries_from number (field ∷ fields)) (entry_of (number + 1) row field.value ++ entries_from (number + 1) fields) (rows_read (number + 1) bytes (length before) (type_rows ++ t.rows) ++ r2.more) whole
-    (entries_first number row field fields true f.row_is f.begins_is) r2.values (structure number (length before) t.rows r2.more known stated r2.stand r2.rest)
+    let r2 : Reads table bytes (type_rows table ++ t.rows) Structures (number + 1) (length before) (entry_of (number + 1) row field.value ++ entries_from (number + 1) fields) = subst (λ (rs : List Row). Reads table bytes (rs ++ t.rows) Structures (number + 1) (length before) (entry_of (number + 1) row field.value ++ entries_from (number + 1) fields)) (sym one.are) r1 in
+    let width : size_of (type_rows table) ≡ row.width = let sized : size_of (type_rows table) ≡ row.width + 0 = ap size_of one.are in omega (arith, sized) in
+    let at : bytes_at bytes (length before) (size_of (type_rows table)) ≡ here = ap (bytes_at bytes (length before)) width ∙ bytes_here bytes before here tail row.width whole t.spelled.width in
+    let number_is : type_read table bytes (length before) ≡ number_of_value field.value = ap number_of at ∙ t.number in
+    let known : structure_rows table (type_read table bytes (length before)) ≡ Some t.rows = ap (structure_rows table) number_is ∙ t.known in
+    let lengths = stated bytes (size_of (type_rows table ++ t.rows)) (length before) (type_rows table ++ t.rows) (structure_states table (number_of_value field.value) t.rows t.known) r2.stand in
+    closed_by table bytes before (here ++ tail) Structures number (entries_from number (field ∷ fields)) (entry_of (number + 1) row field.value ++ entries_from (number + 1) fields) (rows_read (number + 1) bytes (length before) (type_rows table ++ t.rows) ++ r2.more) whole
+    (entries_first number row field fields true f.row_is f.begins_is) r2.values (structure number (length before) t.rows r2.more known lengths r2.stand r2.rest)
 
 at_locality : (table : Table) (revision number count place : ℕ) (bytes before : List ℕ) (field : Field) (fields : List Field) → bytes ≡ before ++ joined (map piece_of (field ∷ fields)) → nat_lt place count ≡ true → FieldsOf (part table revision [] (a.Matrix count place)) (field ∷ fields)
     → ((before' : List ℕ) → bytes ≡ before' ++ joined (map piece_of fields) → IsReadFrom table revision bytes (a.Matrix count (place + 1)) [] (number + 1) before' fields) → Reads table bytes [] (Localities count place) number (length before) (entries_from number (field ∷ fields))

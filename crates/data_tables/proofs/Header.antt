@@ -1,29 +1,28 @@
 -- The fields of the header, and the fixed part behind it.
-use Rattle.std.proofs.Common.{◌≡◌, ◌<◌, ◌==◌, ◌||◌, ℕ, Bool, true, false, cond, List, [], ◌∷◌, ◌++◌, length, drop, get_or, map, Option, Some, None, Ok, refl, sym, ap, subst, ◌∙◌, arith}
-use Rattle.std.proofs.lemmas.Grind.{common_steps}
-use Rattle.std.specs.Option.{is_some}
+use Rattle.std.proofs.Common.{◌≡◌, ◌<◌, ℕ, false, List, [], ◌∷◌, ◌++◌, length, drop, get_or, map, None, Ok, refl, sym, ap, subst, ◌∙◌}
 use Rattle.data_layout.specs.declared.row.Row.{Row}
 use Rattle.data_layout.specs.declared.row.Kind.{Kind}
 use Rattle.data_layout.specs.declared.row.Kind.TheVariants as k
 use Rattle.data_layout.specs.declared.row.FlagSet.{FlagSet}
 use Rattle.data_layout.specs.declared.rows.TheConstants.{HEADER}
 use Rattle.data_layout.specs.declared.table.Table.{Table}
-use Rattle.data_layout.specs.declared.table.Table.TheVariants as t
-use Rattle.data_layout.specs.Layout.{header_rows, fixed_rows, fadt_bytes, locality_row}
+use Rattle.data_layout.specs.declared.row.Behind.{Behind}
+use Rattle.data_layout.specs.declared.row.Behind.TheVariants as b
+use Rattle.data_layout.specs.Layout.{header_rows, fixed_rows, behind_of, locality_row}
 use Rattle.data_text.specs.Values.{number_in}
 use Rattle.data_tables.specs.declared.part.After.{After}
 use Rattle.data_tables.specs.declared.part.After.TheVariants as a
 use Rattle.data_tables.specs.Entry.{Value, Entry}
 use Rattle.data_tables.specs.Fields.{field_bytes, number_of_value, value_of, revision_fault}
-use Rattle.data_tables.specs.Parts.{Part, first_part, first_of, after_fixed, behind}
+use Rattle.data_tables.specs.Parts.{Part, first_part, first_of, after_by, after_fixed, behind}
 use Rattle.data_tables.specs.Walk.{Field}
 use Rattle.data_tables.specs.Compiling.{piece_of, joined}
 use Rattle.data_tables.specs.Entries.{entries_from}
-use Rattle.data_tables.specs.Reading.{bytes_at, number_of, number_read, Tail, Localities, rest_of}
+use Rattle.data_tables.specs.Reading.{bytes_at, number_of, number_read, Tail, Localities, rest_by, rest_of}
 use Rattle.data_tables.proofs.Numbers.{little_back}
 use Rattle.data_tables.proofs.Spelled.{IsSpelled, width_bound, count_bound, given_number}
 use Rattle.data_tables.proofs.Steps.{FieldsOf}
-use Rattle.data_tables.proofs.Plain.{IsSlit, fixed_plain, slit_one}
+use Rattle.data_tables.proofs.Plain.{IsOther, fixed_plain, fixed_count, narrow_revision}
 use Rattle.data_tables.proofs.ReadBack.{part, row_of, Reads, tail_of, IsFirst, first_is, entries_first, bytes_first, bytes_here, rows_step, shifted, numbered}
 use Rattle.data_tables.proofs.Behind.{IsLater, read_back}
 
@@ -100,85 +99,68 @@ first_fixed table revision row rows [] e f = absurd cc
 first_fixed table revision row rows (field ∷ fields) e f =
     (f.0, sym (ap (first_of (part table revision [] (after_fixed table))) e) ∙ f.1, f.2, f.3, f.4)
 
-later_fixed : (table : Table) → IsLater (after_fixed table)
-later_fixed t.Facp = tt
-later_fixed t.Apic = tt
-later_fixed t.Mcfg = tt
-later_fixed t.Hpet = tt
-later_fixed t.Srat = tt
-later_fixed t.Slit = tt
+later_by : (behind : Behind) → IsLater (after_by behind)
+later_by b.Nothing = tt
+later_by b.Entries = tt
+later_by b.Structures = tt
+later_by b.Localities = tt
 
-plain_fixed : (table : Table) (revision : ℕ) (fields : List Field) (bytes before : List ℕ) → (IsSlit table → ⊥) → revision_fault table 1 revision ≡ None → bytes ≡ before ++ joined (map piece_of fields) → FieldsOf (part table revision [] a.Fixed) fields → Reads table bytes (fixed_rows table revision) (tail_of (after_fixed table)) 0 (length before) (entries_from 0 fields)
-plain_fixed table revision fields bytes before n known e f =
-    let p = fixed_plain table revision n known in
+plain_fixed : (table : Table) (revision : ℕ) (fields : List Field) (bytes before : List ℕ) → IsOther (behind_of table) → revision_fault table 1 revision ≡ None → bytes ≡ before ++ joined (map piece_of fields) → FieldsOf (part table revision [] a.Fixed) fields → Reads table bytes (fixed_rows table revision) (tail_of (after_fixed table)) 0 (length before) (entries_from 0 fields)
+plain_fixed table revision fields bytes before o known e f =
+    let p = fixed_plain table revision o known in
     let g = subst (λ (rs : List Row). FieldsOf (part table revision rs (after_fixed table)) fields) (sym p.are) (first_fixed table revision p.first p.others fields p.are f) in
-    read_back table revision fields (fixed_rows table revision) (after_fixed table) 0 bytes before (later_fixed table) p.plain e g
+    read_back table revision fields (fixed_rows table revision) (after_fixed table) 0 bytes before (later_by (behind_of table)) p.plain e g
 
 -- the number of localities
 pub record IsCounted (all : List ℕ) (row : Row) (value : Value) : Type 0 where
   pub spelled : IsSpelled all row value (field_bytes row value)
   pub number : number_of (field_bytes row value) ≡ number_of_value value
 
-counted_of : (all : List ℕ) (w : ℕ) (l : List ℕ) (f : FlagSet) (text : List ℕ) (value : Value) → value_of t.Slit (row_of k.Localities w l f) text ≡ Ok value → IsCounted all (row_of k.Localities w l f) value
-counted_of all w l f text value g =
+counted_of : (all : List ℕ) (table : Table) (w : ℕ) (l : List ℕ) (f : FlagSet) (text : List ℕ) (value : Value) → value_of table (row_of k.Localities w l f) text ≡ Ok value → IsCounted all (row_of k.Localities w l f) value
+counted_of all table w l f text value g =
     let r = row_of k.Localities w l f in
-    let n = given_number t.Slit r (number_in text) value g in
+    let n = given_number table r (number_in text) value g in
     let b = count_bound w n.0 n.2 in
     subst (λ (v : Value). IsCounted all r v) (sym n.1) (record { spelled = numbered all r n.0 refl b tt; number = little_back w n.0 b })
 
-counted : (all : List ℕ) (row : Row) (text : List ℕ) (value : Value) → row.kind ≡ k.Localities → value_of t.Slit row text ≡ Ok value → IsCounted all row value
-counted all row text value e g =
+counted : (all : List ℕ) (table : Table) (row : Row) (text : List ℕ) (value : Value) → row.kind ≡ k.Localities → value_of table row text ≡ Ok value → IsCounted all row value
+counted all table row text value e g =
     let same : row ≡ row_of k.Localities row.width row.label row.flags = ap (λ (q : Kind). row_of q row.width row.label row.flags) e in
-    let g' : value_of t.Slit (row_of k.Localities row.width row.label row.flags) text ≡ Ok value = subst (λ (r : Row). value_of t.Slit r text ≡ Ok value) same g in
-    subst (λ (r : Row). IsCounted all r value) (sym same) (counted_of all row.width row.label row.flags text value g')
+    let g' : value_of table (row_of k.Localities row.width row.label row.flags) text ≡ Ok value = subst (λ (r : Row). value_of table r text ≡ Ok value) same g in
+    subst (λ (r : Row). IsCounted all r value) (sym same) (counted_of all table row.width row.label row.flags text value g')
 
-slit_fixed : (revision : ℕ) (fields : List Field) (bytes before : List ℕ) → length before ≡ 36 → bytes ≡ before ++ joined (map piece_of fields) → FieldsOf (part t.Slit revision [] a.Fixed) fields → Reads t.Slit bytes (fixed_rows t.Slit revision) (rest_of t.Slit bytes) 0 (length before) (entries_from 0 fields)
-slit_fixed revision fields bytes before size e f =
-    let one = slit_one revision in
+count_fixed : (table : Table) (revision : ℕ) (fields : List Field) (bytes before : List ℕ) → behind_of table ≡ b.Localities → revision_fault table 1 revision ≡ None → length before ≡ 36 → bytes ≡ before ++ joined (map piece_of fields) → FieldsOf (part table revision [] a.Fixed) fields → Reads table bytes (fixed_rows table revision) (rest_by b.Localities bytes) 0 (length before) (entries_from 0 fields)
+count_fixed table revision fields bytes before is known size e f =
+    let one = fixed_count table revision is known in
     let row = one.first in
-    let q = taken t.Slit revision row [] (a.Matrix 0 0) fields (first_fixed t.Slit revision row [] fields one.are f) in
+    let q = taken table revision row [] (a.Matrix 0 0) fields (subst (λ (behind : Behind). FieldsOf (part table revision (row ∷ []) (after_by behind)) fields) is (first_fixed table revision row [] fields one.are f)) in
     let here = field_bytes row q.field.value in
     let n = number_of_value q.field.value in
     let tail = joined (map piece_of q.rest) in
-    let c = counted bytes row q.field.line.value q.field.value one.kind_is q.first.given in
-    let whole : bytes ≡ before ++ (here ++ tail) = e ∙ ap (λ (bs : List ℕ). before ++ bs) (bytes_taken t.Slit revision row [] (a.Matrix 0 0) fields q) in
-    let left : FieldsOf (part t.Slit revision [] (a.Matrix n 0)) q.rest = subst (λ (p : Part). FieldsOf p q.rest) (ap (λ (kind : Kind). behind (part t.Slit revision [] (a.Matrix 0 0)) kind n) one.kind_is) q.first.tail in
-    let r = read_back t.Slit revision q.rest [] (a.Matrix n 0) 0 bytes (before ++ here) tt refl (shifted bytes before here tail whole) left in
-    let r1 = header_step t.Slit revision row [] [] (a.Matrix 0 0) fields bytes before here tail (Localities n 0) q c.spelled whole r in
+    let c = counted bytes table row q.field.line.value q.field.value one.kind_is q.first.given in
+    let whole : bytes ≡ before ++ (here ++ tail) = e ∙ ap (λ (bs : List ℕ). before ++ bs) (bytes_taken table revision row [] (a.Matrix 0 0) fields q) in
+    let left : FieldsOf (part table revision [] (a.Matrix n 0)) q.rest = subst (λ (p : Part). FieldsOf p q.rest) (ap (λ (kind : Kind). behind (part table revision [] (a.Matrix 0 0)) kind n) one.kind_is) q.first.tail in
+    let r = read_back table revision q.rest [] (a.Matrix n 0) 0 bytes (before ++ here) tt refl (shifted bytes before here tail whole) left in
+    let r1 = header_step table revision row [] [] (a.Matrix 0 0) fields bytes before here tail (Localities n 0) q c.spelled whole r in
     let at : bytes_at bytes (length before) 8 ≡ here = bytes_here bytes before here tail 8 whole (c.spelled.width ∙ one.width_is) in
     let number : number_read bytes 36 8 ≡ n = ap (λ (o : ℕ). number_read bytes o 8) (sym size) ∙ ap number_of at ∙ c.number in
-    let r2 : Reads t.Slit bytes (row ∷ []) (Localities (number_read bytes 36 8) 0) 0 (length before) (entries_from 0 fields) = subst (λ (m : ℕ). Reads t.Slit bytes (row ∷ []) (Localities m 0) 0 (length before) (entries_from 0 fields)) (sym number) r1 in
-    subst (λ (rs : List Row). Reads t.Slit bytes rs (Localities (number_read bytes 36 8) 0) 0 (length before) (entries_from 0 fields)) (sym one.are) r2
+    let r2 : Reads table bytes (row ∷ []) (Localities (number_read bytes 36 8) 0) 0 (length before) (entries_from 0 fields) = subst (λ (m : ℕ). Reads table bytes (row ∷ []) (Localities m 0) 0 (length before) (entries_from 0 fields)) (sym number) r1 in
+    subst (λ (rs : List Row). Reads table bytes rs (Localities (number_read bytes 36 8) 0) 0 (length before) (entries_from 0 fields)) (sym one.are) r2
 
 pub fixed_read : (table : Table) (revision : ℕ) (fields : List Field) (bytes before : List ℕ) → length before ≡ 36 → revision_fault table 1 revision ≡ None → bytes ≡ before ++ joined (map piece_of fields) → FieldsOf (part table revision [] a.Fixed) fields → Reads table bytes (fixed_rows table revision) (rest_of table bytes) 0 (length before) (entries_from 0 fields)
-fixed_read t.Facp revision fields bytes before size known e f = plain_fixed t.Facp revision fields bytes before (λ x. x) known e f
-fixed_read t.Apic revision fields bytes before size known e f = plain_fixed t.Apic revision fields bytes before (λ x. x) known e f
-fixed_read t.Mcfg revision fields bytes before size known e f = plain_fixed t.Mcfg revision fields bytes before (λ x. x) known e f
-fixed_read t.Hpet revision fields bytes before size known e f = plain_fixed t.Hpet revision fields bytes before (λ x. x) known e f
-fixed_read t.Srat revision fields bytes before size known e f = plain_fixed t.Srat revision fields bytes before (λ x. x) known e f
-fixed_read t.Slit revision fields bytes before size known e f = slit_fixed revision fields bytes before size e f
+fixed_read table revision fields bytes before size known e f = by (behind_of table) refl
+  where
+    other : (behind : Behind) → behind_of table ≡ behind → IsOther behind → Reads table bytes (fixed_rows table revision) (tail_of (after_by behind)) 0 (length before) (entries_from 0 fields)
+    other behind is o = subst (λ (x : Behind). Reads table bytes (fixed_rows table revision) (tail_of (after_by x)) 0 (length before) (entries_from 0 fields)) is
+        (plain_fixed table revision fields bytes before (subst IsOther (sym is) o) known e f)
+
+    by : (behind : Behind) → behind_of table ≡ behind → Reads table bytes (fixed_rows table revision) (rest_by behind bytes) 0 (length before) (entries_from 0 fields)
+    by b.Nothing is = other b.Nothing is tt
+    by b.Entries is = other b.Entries is tt
+    by b.Structures is = other b.Structures is tt
+    by b.Localities is = count_fixed table revision fields bytes before is known size e f
 
 -- ---- the revision
 
-sized : (b c d g : Bool) (n : ℕ) → ((b ≡ true → n < 256) × (c ≡ true → n < 256) × (d ≡ true → n < 256) × (g ≡ true → n < 256)) → is_some (cond {A = Option ℕ} b (Some 116) (cond {A = Option ℕ} c (Some 244) (cond {A = Option ℕ} d (Some 268) (cond {A = Option ℕ} g (Some 276) None)))) ≡ true → n < 256
-sized true c d g n h e = h.0 refl
-sized false true d g n h e = h.1 refl
-sized false false true g n h e = h.2 refl
-sized false false false true n h e = h.3 refl
-sized false false false false n h e = absurd cc
-
-fadt_small : (n : ℕ) → revision_fault t.Facp 1 n ≡ None → n < 256
-fadt_small n e =
-    let some : is_some (fadt_bytes n) ≡ true = elim (is_some (fadt_bytes n)) as (λ b. cond {A = Option ℕ} b None (Some 6093) ≡ None → b ≡ true) [
-      | true ↦ λ f. refl
-      | false ↦ λ f. absurd cc
-    ] e in
-    sized (n == 1) (n == 3 || n == 4) (n == 5) (n == 6) n (λ f. grind (arith, common_steps), λ f. grind (arith, common_steps), λ f. grind (arith, common_steps), λ f. grind (arith, common_steps)) some
-
 pub small_revision : (table : Table) (n : ℕ) → revision_fault table 1 n ≡ None → n < 256
-small_revision t.Facp n e = fadt_small n e
-small_revision t.Apic n e = width_bound 1 n e
-small_revision t.Mcfg n e = width_bound 1 n e
-small_revision t.Hpet n e = width_bound 1 n e
-small_revision t.Srat n e = width_bound 1 n e
-small_revision t.Slit n e = width_bound 1 n e
+small_revision table n e = width_bound 1 n (narrow_revision table n e)

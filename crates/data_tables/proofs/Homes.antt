@@ -1,5 +1,5 @@
 -- The messages of a text: what they are, in which order, and where they stand.
-use Rattle.std.proofs.Common.{◌≡◌, ℕ, ◌+◌, ◌==◌, ◌<◌, ◌≤◌, ◌⊎◌, inl, inr, Bool, true, false, nat_lt, nat_le, cond, List, [], ◌∷◌, ◌++◌, length, Option, Some, None, is_some, Ok, Err, Result, refl, subst, arith}
+use Rattle.std.proofs.Common.{◌≡◌, ℕ, ◌+◌, ◌==◌, ◌<◌, ◌≤◌, ◌⊎◌, inl, inr, Bool, true, false, nat_lt, nat_le, cond, List, [], ◌∷◌, ◌++◌, length, Option, Some, None, Ok, Err, Result, refl, subst, arith}
 use Rattle.std.specs.List.{All}
 use Rattle.std.proofs.lemmas.Bool.{leb-true}
 use Rattle.std.proofs.lemmas.List.Elements.{All-nil, All-cons, All-head, All-tail, All-append, All-weaker}
@@ -23,8 +23,7 @@ use Rattle.data_tables.specs.declared.decoding.Told.{Told}
 use Rattle.data_tables.specs.declared.decoding.Told.TheVariants as told
 use Rattle.data_layout.specs.declared.row.Kind.{Kind}
 use Rattle.data_layout.specs.declared.row.Kind.TheVariants as k
-use Rattle.data_layout.specs.declared.table.Table.TheVariants as t
-use Rattle.data_layout.specs.Layout.{fadt_bytes, fixed_rows, entry_rows, type_rows, locality_row}
+use Rattle.data_layout.specs.Layout.{knows_revision, fixed_rows, entry_rows, type_rows, locality_row}
 use Rattle.data_text.specs.Parts.{place_of}
 use Rattle.data_text.specs.Source.{first_place}
 use Rattle.data_text.specs.Values.{number_in, text_in as text_value, bytes_in}
@@ -33,8 +32,8 @@ use Rattle.data_tables.specs.declared.field.Form.TheVariants as form
 use Rattle.data_tables.specs.declared.part.After.{After}
 use Rattle.data_tables.specs.declared.part.After.TheVariants as a
 use Rattle.aml_code.specs.Header.{filled}
-use Rattle.data_tables.specs.Entry.{Value, Bytes, Number}
-use Rattle.data_tables.specs.Fields.{form_of, has_room, has_structure, width_fault, revision_fault, type_fault, count_fault, number_fault, bytes_fault, judged, value_of_number, value_of_text, value_of_bytes, value_by, value_of, row_key}
+use Rattle.data_tables.specs.Entry.{Value, Bytes}
+use Rattle.data_tables.specs.Fields.{guid_in, form_of, has_room, has_structure, width_fault, revision_fault, type_fault, count_fault, number_fault, bytes_fault, judged, value_of_number, value_of_text, value_of_bytes, value_by, value_of, row_key}
 use Rattle.data_tables.specs.Parts.{Part, Opened, after_fixed, first_of, open_after, open_rows, next_field, first_part, missing_after, missing_rows, missing}
 use Rattle.data_tables.specs.Walk.{Walked, Step, Passed, Took, Halted, with_front, message_at, told_at, label_note, after_step, fault_if, step_with, step_due, step_at, step_of, walk}
 use Rattle.data_tables.specs.Decoding.{is_decoded, told_by}
@@ -71,12 +70,7 @@ width_number : (width number : ℕ) → MaybeNumber (width_fault width number)
 width_number width number = either_number (has_room width number) None (Some 6094) tt (number_is 6094 refl refl)
 
 revision_number : (table : Table) (width number : ℕ) → MaybeNumber (revision_fault table width number)
-revision_number t.Facp width number = either_number (is_some (fadt_bytes number)) None (Some 6093) tt (number_is 6093 refl refl)
-revision_number t.Apic width number = width_number width number
-revision_number t.Mcfg width number = width_number width number
-revision_number t.Hpet width number = width_number width number
-revision_number t.Srat width number = width_number width number
-revision_number t.Slit width number = width_number width number
+revision_number table width number = either_number (knows_revision table number) (width_fault width number) (Some 6093) (width_number width number) (number_is 6093 refl refl)
 
 type_number : (table : Table) (width number : ℕ) → MaybeNumber (type_fault table width number)
 type_number table width number =
@@ -90,6 +84,7 @@ number_number : (table : Table) (kind : Kind) (width number : ℕ) → MaybeNumb
 number_number table k.Number width number = width_number width number
 number_number table k.Text width number = width_number width number
 number_number table k.Bytes width number = width_number width number
+number_number table k.Guid width number = width_number width number
 number_number table k.Reserved width number = either_number (number == 0) None (Some 6093) tt (number_is 6093 refl refl)
 number_number table k.TableLength width number = width_number width number
 number_number table k.Checksum width number = width_number width number
@@ -128,6 +123,7 @@ value_refuses table row text = by (form_of row.kind)
     by form.Number = of_number (number_in text)
     by form.Text = of_text (text_value text)
     by form.Bytes = of_bytes (bytes_in text)
+    by form.Guid = of_bytes (guid_in text)
 
 first_refuses : (part : Part) (rows : List Row) → Refuses (first_of part rows)
 first_refuses part [] = number_is 6092 refl refl
@@ -139,8 +135,8 @@ field_refuses part = by part.rows
     behind : (after : After) → Refuses (open_after part after)
     behind a.Fixed = first_refuses (record part { after = after_fixed part.table }) (fixed_rows part.table part.revision)
     behind a.Nothing = number_is 6092 refl refl
-    behind a.Entries = first_refuses part entry_rows
-    behind a.Structures = first_refuses part type_rows
+    behind a.Entries = first_refuses part (entry_rows part.table)
+    behind a.Structures = first_refuses part (type_rows part.table)
     behind (a.Matrix count number) = either_refuses (nat_lt number count) (Ok (locality_row count number, record part { rows = []; after = a.Matrix count (number + 1) })) (Err 6097) tt (number_is 6097 refl refl)
 
     by : (rows : List Row) → Refuses (open_rows part rows)

@@ -1,6 +1,9 @@
 -- The bytes of a compiled text read as the values that the text writes.
-use Rattle.std.proofs.Common.{◌≡◌, ◌<◌, ◌+◌, ◌-◌, ◌%◌, ◌^◌, ◌*◌, ℕ, true, false, cond, List, [], ◌∷◌, ◌++◌, length, take, map, replicate, Option, Some, None, Ok, Err, refl, sym, ap, subst, ◌∙◌, arith, length-append, append_assoc, append-nil, zero-add, codes}
-use Rattle.std.specs.Prelude.{sum}
+use Rattle.std.proofs.Common.{◌≡◌, ◌<◌, ◌+◌, ◌-◌, ◌%◌, ◌^◌, ◌*◌, ℕ, Bool, true, false, cond, List, [], ◌∷◌, ◌++◌, length, take, map, replicate, Option, Some, None, Ok, Err, refl, sym, ap, subst, ◌∙◌, arith, length-append, append_assoc, append-nil, zero-add}
+use Rattle.std.specs.Prelude.{sum, ◌==◌}
+use Rattle.std.specs.List.{list_all}
+use Rattle.std.proofs.lemmas.Bool.{and_parts}
+use Rattle.std.proofs.lemmas.Grind.{common_steps}
 use Rattle.std.specs.Str.{bytes_eq}
 use Rattle.std.proofs.lemmas.Slice.Eq.{bytes_eq-Decides}
 use Rattle.std.proofs.lemmas.List.{take_all}
@@ -10,8 +13,8 @@ use Rattle.iasl_messages.specs.declared.place.Piece.{Piece}
 use Rattle.iasl_messages.specs.declared.place.Line.{Line}
 use Rattle.data_layout.specs.declared.row.Row.{Row}
 use Rattle.data_layout.specs.declared.table.Table.{Table}
-use Rattle.data_layout.specs.declared.table.Table.TheVariants as t
-use Rattle.data_layout.specs.Layout.{table_of, fixed_rows}
+use Rattle.data_layout.specs.Layouts.{Layout, layouts}
+use Rattle.data_layout.specs.Layout.{find_table, table_of, fixed_rows}
 use Rattle.data_text.specs.declared.field_line.FieldLine.{FieldLine}
 use Rattle.data_text.specs.declared.field_line.DataText.{DataText}
 use Rattle.data_text.specs.Source.{text_of}
@@ -97,17 +100,19 @@ sealed_sum p0 p1 p2 p3 ps e =
 four : (s : List ℕ) (word : List ℕ) → length word ≡ 4 → bytes_eq s word ≡ true → length s ≡ 4
 four s word w e = ap length ((bytes_eq-Decides s word).0 e) ∙ w
 
-one_of : (s word : List ℕ) (this table : Table) (other : Option Table) → length word ≡ 4 → (other ≡ Some table → length s ≡ 4) → cond (bytes_eq s word) (Some this) other ≡ Some table → length s ≡ 4
-one_of s word this table other w k e =
-    elim (bytes_eq s word) as (λ b. bytes_eq s word ≡ b → cond b (Some this) other ≡ Some table → length s ≡ 4) [
-      | true ↦ λ f g. four s word w f
-      | false ↦ λ f g. k g
-    ] refl e
+four_of : (s : List ℕ) (table : Table) (ls : List Layout) → list_all (λ (l : Layout). length l.signature == 4) ls ≡ true → find_table s ls ≡ Some table → length s ≡ 4
+four_of s table [] all e = absurd cc
+four_of s table (l ∷ ls) all e =
+    let each = and_parts (length l.signature == 4) _ all in
+    let width : length l.signature ≡ 4 = let q = each.0 in grind (arith, common_steps) in
+    by (bytes_eq s l.signature) width (λ k. four_of s table ls each.1 k) refl e
+  where
+    by : (b : Bool) → length l.signature ≡ 4 → (find_table s ls ≡ Some table → length s ≡ 4) → bytes_eq s l.signature ≡ b → cond b (Some l.table) (find_table s ls) ≡ Some table → length s ≡ 4
+    by true width others f g = four s l.signature width f
+    by false width others f g = others g
 
 signature_four : (s : List ℕ) (table : Table) → table_of s ≡ Some table → length s ≡ 4
-signature_four s table =
-    one_of s (codes "FACP") t.Facp table _ refl (one_of s (codes "APIC") t.Apic table _ refl (one_of s (codes "MCFG") t.Mcfg table _ refl (
-    one_of s (codes "HPET") t.Hpet table _ refl (one_of s (codes "SRAT") t.Srat table _ refl (one_of s (codes "SLIT") t.Slit table None refl (λ e. absurd cc))))))
+signature_four s table e = four_of s table layouts refl e
 
 filled_four : (s : List ℕ) → length s ≡ 4 → filled 4 s ≡ s
 filled_four s e =

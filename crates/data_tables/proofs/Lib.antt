@@ -16,3 +16,4 @@ pub mod Homes
 pub mod Sizes
 pub mod Headers
 pub mod OneTable
+pub mod Guids

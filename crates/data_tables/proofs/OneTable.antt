@@ -1,7 +1,8 @@
 -- The bytes that read as some values are one list of bytes.
-use Rattle.std.proofs.Common.{◌≡◌, ◌≤◌, ◌<◌, ◌+◌, ◌-◌, ◌*◌, ◌%◌, ◌==◌, ℕ, zero, suc, Bool, true, false, cond, List, [], ◌∷◌, ◌++◌, length, take, drop, slice_index, Option, Some, None, refl, sym, ap, subst, ◌∙◌, arith, append_assoc, length-append, zero-add}
-use Rattle.std.specs.Prelude.{sum, ◌&&◌, nat_le, ⊤}
+use Rattle.std.proofs.Common.{◌≡◌, ◌≤◌, ◌<◌, ◌+◌, ◌-◌, ◌*◌, ◌%◌, ◌==◌, ℕ, zero, suc, Bool, true, false, List, [], ◌∷◌, ◌++◌, length, take, drop, Option, Some, refl, sym, ap, subst, ◌∙◌, arith, append_assoc, zero-add}
+use Rattle.std.specs.Prelude.{sum, ◌&&◌, nat_lt, ⊤}
 use Rattle.std.specs.List.{All, list_all}
+use Rattle.std.proofs.lemmas.Grind.{common_steps}
 use Rattle.std.proofs.lemmas.List.{take-append-drop, length-take-le, length-drop}
 use Rattle.std.proofs.lemmas.List.Elements.{All-head, All-tail}
 use Rattle.std.proofs.lemmas.List.Sums.{sum_by-append}
@@ -12,12 +13,15 @@ use Rattle.data_layout.specs.declared.row.Row.{Row}
 use Rattle.data_layout.specs.declared.row.Kind.{Kind}
 use Rattle.data_layout.specs.declared.row.Kind.TheVariants as k
 use Rattle.data_layout.specs.declared.table.Table.{Table}
-use Rattle.data_layout.specs.declared.table.Table.TheVariants as t
-use Rattle.data_layout.specs.declared.rows.TheConstants.{FACP}
-use Rattle.data_layout.specs.Layout.{table_of, header_rows, fadt_bytes, first_bytes, fadt_rows, fadt_rows_of, fixed_rows, entry_rows, type_rows, madt_rows, srat_rows, structure_rows, locality_row}
+use Rattle.data_layout.specs.declared.row.Behind.{Behind}
+use Rattle.data_layout.specs.declared.row.Behind.TheVariants as b
+use Rattle.data_layout.specs.Layouts.{Layout}
+use Rattle.data_layout.specs.Layout.{table_of, layout_of, header_rows, knows_by, knows_revision, rows_by, fixed_rows, behind_of, entry_rows, type_rows, structure_rows, locality_row}
+use Rattle.data_layout.proofs.Lookup.{of_each, fixed_are, of_known, of_fixed, of_typed}
 use Rattle.data_tables.specs.Entry.{Value, Number, Bytes, Entry}
-use Rattle.data_tables.specs.Reading.{bytes_at, number_of, number_read, said, field_said, entry_said, rows_read, size_of, Stands, Stand, Tail, Entries, Structures, Localities, IsRest, ended, entry, structure, locality, rest_of, first_rows, ReadsAs}
-use Rattle.data_tables.proofs.Unique.{stand_within}
+use Rattle.data_tables.specs.Reading.{bytes_at, number_of, number_read, said, field_said, entry_said, rows_read, size_of, Stands, Stand, type_read, Tail, Entries, Structures, Localities, IsRest, ended, entry, structure, locality, rest_by, rest_of, ReadsAs}
+use Rattle.data_tables.proofs.Plain.{is_type, type_one}
+use Rattle.data_tables.proofs.Unique.{stand_within, is_number, is_entry, IsSound, sound_rest}
 
 -- ---- bytes
 
@@ -87,6 +91,7 @@ field_same : (one two : List ℕ) (kind : Kind) (number : ℕ) (row : Row) (a b 
     → entry_said number row (said kind a) ++ ms ≡ entry_said number row (said kind b) ++ ns → SameField kind a b × (ms ≡ ns)
 field_same one two k.Text number row a b ms ns l h g s r e = let v = first_value number row (Bytes a) (Bytes b) ms ns e in (same_bytes a b v.0, v.1)
 field_same one two k.Bytes number row a b ms ns l h g s r e = let v = first_value number row (Bytes a) (Bytes b) ms ns e in (same_bytes a b v.0, v.1)
+field_same one two k.Guid number row a b ms ns l h g s r e = let v = first_value number row (Bytes a) (Bytes b) ms ns e in (same_bytes a b v.0, v.1)
 field_same one two (k.Locality place) number row a b ms ns l h g s r e = let v = first_value number row (Bytes a) (Bytes b) ms ns e in (same_bytes a b v.0, v.1)
 field_same one two k.TableLength number row a b ms ns l h g s r e = (tt, e)
 field_same one two k.Checksum number row a b ms ns l h g s r e = (tt, e)
@@ -166,111 +171,106 @@ rest_same one two offset (row ∷ rows) p s e =
     behind_same one two offset row.width (plain_same row.kind (bytes_at one offset row.width) (bytes_at two offset row.width) q.0 s.0)
     (rest_same one two (offset + row.width) rows q.1 s.1 (subst (λ (o : ℕ). drop o one ≡ drop o two) next e))
 
-plain_chosen : (b : Bool) (rows found : List Row) (other : Option (List Row)) → list_all plain_row rows ≡ true → (other ≡ Some found → list_all plain_row found ≡ true) → cond b (Some rows) other ≡ Some found → list_all plain_row found ≡ true
-plain_chosen true rows found other h k e = let same : rows ≡ found = cc in subst (λ (rs : List Row). list_all plain_row rs ≡ true) same h
-plain_chosen false rows found other h k e = k e
+typed_plain : (table : Table) (n : ℕ) (found : List Row) → structure_rows table n ≡ Some found → list_all plain_row (type_rows table ++ found) ≡ true
+typed_plain table n found e = of_typed (λ (types rows : List Row). list_all plain_row (types ++ rows)) refl table n found e
 
-madt_plain : (n : ℕ) (found : List Row) → madt_rows n ≡ Some found → list_all plain_row found ≡ true
-unfolding madt_rows
-madt_plain n found =
-    plain_chosen (n == 0) _ found _ refl (plain_chosen (n == 1) _ found _ refl (plain_chosen (n == 2) _ found _ refl (plain_chosen (n == 3) _ found _ refl (
-    plain_chosen (n == 4) _ found _ refl (plain_chosen (n == 5) _ found _ refl (plain_chosen (n == 9) _ found _ refl (plain_chosen (n == 10) _ found _ refl (
-    plain_chosen (n == 11) _ found _ refl (plain_chosen (n == 12) _ found _ refl (plain_chosen (n == 13) _ found _ refl (plain_chosen (n == 14) _ found _ refl (
-    plain_chosen (n == 15) _ found None refl (λ e. absurd cc)))))))))))))
-
-srat_plain : (n : ℕ) (found : List Row) → srat_rows n ≡ Some found → list_all plain_row found ≡ true
-unfolding srat_rows
-srat_plain n found =
-    plain_chosen (n == 0) _ found _ refl (plain_chosen (n == 1) _ found _ refl (plain_chosen (n == 2) _ found _ refl (
-    plain_chosen (n == 3) _ found _ refl (plain_chosen (n == 4) _ found _ refl (plain_chosen (n == 5) _ found None refl (λ e. absurd cc))))))
-
-structure_plain : (table : Table) (n : ℕ) (found : List Row) → structure_rows table n ≡ Some found → list_all plain_row found ≡ true
-structure_plain t.Apic n found e = madt_plain n found e
-structure_plain t.Srat n found e = srat_plain n found e
-structure_plain t.Facp n found e = absurd cc
-structure_plain t.Mcfg n found e = absurd cc
-structure_plain t.Hpet n found e = absurd cc
-structure_plain t.Slit n found e = absurd cc
-
-typed_plain : (rows : List Row) → list_all plain_row rows ≡ true → list_all plain_row (type_rows ++ rows) ≡ true
-unfolding type_rows
-typed_plain rows e = e
-
-entries_plain : list_all plain_row entry_rows ≡ true
-unfolding entry_rows
-entries_plain = refl
-
-first_plain_by : (b : Bool) (row : Row) (rows : List Row) → plain_row row ≡ true → list_all plain_row rows ≡ true → list_all plain_row (cond b (row ∷ rows) []) ≡ true
-first_plain_by true row rows p q = ap (λ (c : Bool). c && list_all plain_row rows) p ∙ q
-first_plain_by false row rows p q = refl
-
-first_plain : (size : ℕ) (rows : List Row) → list_all plain_row rows ≡ true → list_all plain_row (first_bytes size rows) ≡ true
-first_plain size [] p = refl
-first_plain size (row ∷ rows) p =
-    let q = both_true (plain_row row) (list_all plain_row rows) p in
-    first_plain_by (nat_le row.width size) row (first_bytes (size - row.width) rows) q.0 (first_plain (size - row.width) rows q.1)
-
-facp_plain : (size : Option ℕ) → list_all plain_row (fadt_rows_of size) ≡ true
-facp_plain None = refl
-facp_plain (Some size) = first_plain (size - 36) FACP.now refl
+entries_plain : (table : Table) → list_all plain_row (entry_rows table) ≡ true
+entries_plain table = of_each (λ (l : Layout). list_all plain_row l.entries) refl table
 
 fixed_plain : (table : Table) (revision : ℕ) → list_all plain_row (fixed_rows table revision) ≡ true
-unfolding fixed_rows fadt_rows
-fixed_plain t.Facp revision = facp_plain (fadt_bytes revision)
-fixed_plain t.Apic revision = refl
-fixed_plain t.Mcfg revision = refl
-fixed_plain t.Hpet revision = refl
-fixed_plain t.Srat revision = refl
-fixed_plain t.Slit revision = refl
+fixed_plain table revision = of_fixed (list_all plain_row) refl refl table revision
 
 -- ---- behind the fixed part
 
 nothing_left : (bytes : List ℕ) (offset : ℕ) → offset ≡ length bytes → drop offset bytes ≡ []
 nothing_left bytes offset e = drop_of_length-le bytes (omega (arith, e))
 
-no_entries : (number : ℕ) (bytes : List ℕ) (offset : ℕ) (more : List Entry) → [] ≡ rows_read number bytes offset entry_rows ++ more → ⊥
-unfolding entry_rows
-no_entries number bytes offset more e = cc
+no_number : (kind : Kind) (number : ℕ) (row : Row) (here : List ℕ) (more : List Entry) → is_number kind ≡ true → [] ≡ entry_said number row (said kind here) ++ more → ⊥
+no_number k.Number number row here more h e = cc
+no_number k.Text number row here more h e = absurd cc
+no_number k.Bytes number row here more h e = absurd cc
+no_number k.Guid number row here more h e = absurd cc
+no_number k.Reserved number row here more h e = absurd cc
+no_number k.TableLength number row here more h e = absurd cc
+no_number k.Checksum number row here more h e = absurd cc
+no_number k.CompilerId number row here more h e = absurd cc
+no_number k.CompilerRevision number row here more h e = absurd cc
+no_number (k.Length size) number row here more h e = absurd cc
+no_number k.Revision number row here more h e = absurd cc
+no_number k.StructureType number row here more h e = absurd cc
+no_number k.Localities number row here more h e = absurd cc
+no_number (k.Locality n) number row here more h e = absurd cc
 
-no_structure : (number : ℕ) (bytes : List ℕ) (offset : ℕ) (rows : List Row) (more : List Entry) → [] ≡ rows_read number bytes offset (type_rows ++ rows) ++ more → ⊥
-unfolding type_rows
-no_structure number bytes offset rows more e = cc
+no_entries : (rows : List Row) (number : ℕ) (bytes : List ℕ) (offset : ℕ) (more : List Entry) → is_entry rows ≡ true → [] ≡ rows_read number bytes offset rows ++ more → ⊥
+no_entries [] number bytes offset more h e = absurd cc
+no_entries (row ∷ rows) number bytes offset more h e =
+    let each = both_true (is_number row.kind) (nat_lt 0 row.width) h in
+    let here : List ℕ = bytes_at bytes offset row.width in
+    let others : List Entry = rows_read number bytes (offset + row.width) rows in
+    no_number row.kind number row here (others ++ more) each.0 (e ∙ append_assoc (entry_said number row (said row.kind here)) others more)
+
+no_structure : (types : List Row) (number : ℕ) (bytes : List ℕ) (offset : ℕ) (rows : List Row) (more : List Entry) → is_type types ≡ true → [] ≡ rows_read number bytes offset (types ++ rows) ++ more → ⊥
+no_structure types number bytes offset rows more h e =
+    let one = type_one types h in
+    let here : List ℕ = bytes_at bytes offset one.first.width in
+    let others : List Entry = rows_read number bytes (offset + one.first.width) rows in
+    let said_is : said one.first.kind here ≡ Some (Number (number_of here)) = ap (λ (kind : Kind). said kind here) one.kind_is in
+    let all : [] ≡ entry_said number one.first (Some (Number (number_of here))) ++ (others ++ more) =
+    e ∙ ap (λ (rs : List Row). rows_read number bytes offset (rs ++ rows) ++ more) one.are ∙ append_assoc (entry_said number one.first (said one.first.kind here)) others more
+    ∙ ap (λ (v : Option Value). entry_said number one.first v ++ (others ++ more)) said_is in
+    cc
 
 no_locality : (number : ℕ) (bytes : List ℕ) (offset count place : ℕ) (more : List Entry) → [] ≡ rows_read number bytes offset (locality_row count place ∷ []) ++ more → ⊥
 no_locality number bytes offset count place more e = cc
 
 -- the types of the first structures
-type_same : (number : ℕ) (one two : List ℕ) (offset : ℕ) (rows others : List Row) (ms ns : List Entry) → rows_read number one offset (type_rows ++ rows) ++ ms ≡ rows_read number two offset (type_rows ++ others) ++ ns → number_read one offset 1 ≡ number_read two offset 1
-unfolding type_rows
-type_same number one two offset rows others ms ns e = same_number (number_read one offset 1) (number_read two offset 1) (ap (λ (x : Entry). x.value) (heads e))
-  where
-    heads : {x y : Entry} {xs ys : List Entry} → x ∷ xs ≡ y ∷ ys → x ≡ y
-    heads f = cc
+heads : {x y : Entry} {xs ys : List Entry} → x ∷ xs ≡ y ∷ ys → x ≡ y
+heads f = cc
+
+types_same : (number : ℕ) (one two : List ℕ) (offset : ℕ) (first : Row) (rows others : List Row) (ms ns : List Entry) → first.kind ≡ k.StructureType → rows_read number one offset (first ∷ rows) ++ ms ≡ rows_read number two offset (first ∷ others) ++ ns → number_read one offset first.width ≡ number_read two offset first.width
+types_same number one two offset first rows others ms ns is e =
+    let a : List ℕ = bytes_at one offset first.width in
+    let b : List ℕ = bytes_at two offset first.width in
+    let said_one : said first.kind a ≡ Some (Number (number_of a)) = ap (λ (kind : Kind). said kind a) is in
+    let said_two : said first.kind b ≡ Some (Number (number_of b)) = ap (λ (kind : Kind). said kind b) is in
+    let ms' : List Entry = rows_read number one (offset + first.width) rows in
+    let ns' : List Entry = rows_read number two (offset + first.width) others in
+    let both : entry_with number first (Number (number_of a)) ∷ (ms' ++ ms) ≡ entry_with number first (Number (number_of b)) ∷ (ns' ++ ns) =
+    sym (ap (λ (v : Option Value). (entry_said number first v ++ ms') ++ ms) said_one) ∙ e ∙ ap (λ (v : Option Value). (entry_said number first v ++ ns') ++ ns) said_two in
+    same_number (number_of a) (number_of b) (ap (λ (x : Entry). x.value) (heads both))
+
+type_same : (types : List Row) (number : ℕ) (one two : List ℕ) (offset : ℕ) (rows others : List Row) (ms ns : List Entry) → is_type types ≡ true → rows_read number one offset (types ++ rows) ++ ms ≡ rows_read number two offset (types ++ others) ++ ns → number_read one offset (size_of types) ≡ number_read two offset (size_of types)
+type_same types number one two offset rows others ms ns h e =
+    let t = type_one types h in
+    let width : size_of types ≡ t.first.width = let sized : size_of types ≡ t.first.width + 0 = ap size_of t.are in omega (arith, sized) in
+    let read : rows_read number one offset (t.first ∷ rows) ++ ms ≡ rows_read number two offset (t.first ∷ others) ++ ns =
+    sym (ap (λ (rs : List Row). rows_read number one offset (rs ++ rows) ++ ms) t.are) ∙ e ∙ ap (λ (rs : List Row). rows_read number two offset (rs ++ others) ++ ns) t.are in
+    subst (λ (w : ℕ). number_read one offset w ≡ number_read two offset w) (sym width) (types_same number one two offset t.first rows others ms ns t.kind_is read)
 
 module _ (table : Table) (one two : List ℕ) (h : AreBytes one) (g : AreBytes two) where
-  rest_bytes : (tail : Tail) (number offset : ℕ) (ms ns : List Entry) → ms ≡ ns → IsRest table one tail number offset ms → IsRest table two tail number offset ns → drop offset one ≡ drop offset two
-  rest_bytes tail number offset ms ns e (ended tail1 n1 o1 enough1 e1) (ended tail2 n2 o2 enough2 e2) = nothing_left one o1 e1 ∙ sym (nothing_left two o1 e2)
-  rest_bytes tail number offset ms ns e (ended tail1 n1 o1 enough1 e1) (entry n2 o2 more2 stand2 rest2) = absurd (no_entries (n2 + 1) two o2 more2 e)
-  rest_bytes tail number offset ms ns e (ended tail1 n1 o1 enough1 e1) (structure n2 o2 rows2 more2 known2 stated2 stand2 rest2) = absurd (no_structure (n2 + 1) two o2 rows2 more2 e)
-  rest_bytes tail number offset ms ns e (ended tail1 n1 o1 enough1 e1) (locality n2 o2 count2 place2 more2 lt2 stand2 rest2) = absurd (no_locality (n2 + 1) two o2 count2 place2 more2 e)
-  rest_bytes tail number offset ms ns e (entry n1 o1 more1 stand1 rest1) (ended tail2 n2 o2 enough2 e2) = absurd (no_entries (n1 + 1) one o1 more1 (sym e))
-  rest_bytes tail number offset ms ns e (entry n1 o1 more1 stand1 rest1) (entry n2 o2 more2 stand2 rest2) =
-      let s = rows_same one two h g (n1 + 1) o1 entry_rows more1 more2 stand1 stand2 e in
-      rest_same one two o1 entry_rows entries_plain s.0 (rest_bytes Entries (n1 + 1) (o1 + size_of entry_rows) more1 more2 s.1 rest1 rest2)
-  rest_bytes tail number offset ms ns e (structure n1 o1 rows1 more1 known1 stated1 stand1 rest1) (ended tail2 n2 o2 enough2 e2) = absurd (no_structure (n1 + 1) one o1 rows1 more1 (sym e))
-  rest_bytes tail number offset ms ns e (structure n1 o1 rows1 more1 known1 stated1 stand1 rest1) (structure n2 o2 rows2 more2 known2 stated2 stand2 rest2) =
-      let types : number_read one o1 1 ≡ number_read two o1 1 = type_same (n1 + 1) one two o1 rows1 rows2 more1 more2 e in
+  rest_bytes : (tail : Tail) (number offset : ℕ) (ms ns : List Entry) → IsSound table tail → ms ≡ ns → IsRest table one tail number offset ms → IsRest table two tail number offset ns → drop offset one ≡ drop offset two
+  rest_bytes tail number offset ms ns t e (ended tail1 n1 o1 enough1 e1) (ended tail2 n2 o2 enough2 e2) = nothing_left one o1 e1 ∙ sym (nothing_left two o1 e2)
+  rest_bytes tail number offset ms ns t e (ended tail1 n1 o1 enough1 e1) (entry n2 o2 more2 stand2 rest2) = absurd (no_entries (entry_rows table) (n2 + 1) two o2 more2 t e)
+  rest_bytes tail number offset ms ns t e (ended tail1 n1 o1 enough1 e1) (structure n2 o2 rows2 more2 known2 stated2 stand2 rest2) = absurd (no_structure (type_rows table) (n2 + 1) two o2 rows2 more2 t e)
+  rest_bytes tail number offset ms ns t e (ended tail1 n1 o1 enough1 e1) (locality n2 o2 count2 place2 more2 lt2 stand2 rest2) = absurd (no_locality (n2 + 1) two o2 count2 place2 more2 e)
+  rest_bytes tail number offset ms ns t e (entry n1 o1 more1 stand1 rest1) (ended tail2 n2 o2 enough2 e2) = absurd (no_entries (entry_rows table) (n1 + 1) one o1 more1 t (sym e))
+  rest_bytes tail number offset ms ns t e (entry n1 o1 more1 stand1 rest1) (entry n2 o2 more2 stand2 rest2) =
+      let s = rows_same one two h g (n1 + 1) o1 (entry_rows table) more1 more2 stand1 stand2 e in
+      rest_same one two o1 (entry_rows table) (entries_plain table) s.0 (rest_bytes Entries (n1 + 1) (o1 + size_of (entry_rows table)) more1 more2 t s.1 rest1 rest2)
+  rest_bytes tail number offset ms ns t e (structure n1 o1 rows1 more1 known1 stated1 stand1 rest1) (ended tail2 n2 o2 enough2 e2) = absurd (no_structure (type_rows table) (n1 + 1) one o1 rows1 more1 t (sym e))
+  rest_bytes tail number offset ms ns t e (structure n1 o1 rows1 more1 known1 stated1 stand1 rest1) (structure n2 o2 rows2 more2 known2 stated2 stand2 rest2) =
+      let types : type_read table one o1 ≡ type_read table two o1 = type_same (type_rows table) (n1 + 1) one two o1 rows1 rows2 more1 more2 t e in
       let both : ◌≡◌ {A = Option (List Row)} (Some rows2) (Some rows1) = sym known2 ∙ ap (structure_rows table) (sym types) ∙ known1 in
       let rows : rows2 ≡ rows1 = cc in
-      let stand : Stand two o1 (type_rows ++ rows1) = subst (λ (rs : List Row). Stand two o1 (type_rows ++ rs)) rows stand2 in
-      let rest : IsRest table two Structures (n1 + 1) (o1 + size_of (type_rows ++ rows1)) more2 = subst (λ (rs : List Row). IsRest table two Structures (n1 + 1) (o1 + size_of (type_rows ++ rs)) more2) rows rest2 in
-      let read : rows_read (n1 + 1) one o1 (type_rows ++ rows1) ++ more1 ≡ rows_read (n1 + 1) two o1 (type_rows ++ rows1) ++ more2 = e ∙ ap (λ (rs : List Row). rows_read (n1 + 1) two o1 (type_rows ++ rs) ++ more2) rows in
-      let s = rows_same one two h g (n1 + 1) o1 (type_rows ++ rows1) more1 more2 stand1 stand read in
-      rest_same one two o1 (type_rows ++ rows1) (typed_plain rows1 (structure_plain table (number_read one o1 1) rows1 known1)) s.0 (rest_bytes Structures (n1 + 1) (o1 + size_of (type_rows ++ rows1)) more1 more2 s.1 rest1 rest)
-  rest_bytes tail number offset ms ns e (locality n1 o1 count1 place1 more1 lt1 stand1 rest1) (ended tail2 n2 o2 enough2 e2) = absurd (no_locality (n1 + 1) one o1 count1 place1 more1 (sym e))
-  rest_bytes tail number offset ms ns e (locality n1 o1 count1 place1 more1 lt1 stand1 rest1) (locality n2 o2 count2 place2 more2 lt2 stand2 rest2) =
+      let stand : Stand two o1 (type_rows table ++ rows1) = subst (λ (rs : List Row). Stand two o1 (type_rows table ++ rs)) rows stand2 in
+      let rest : IsRest table two Structures (n1 + 1) (o1 + size_of (type_rows table ++ rows1)) more2 = subst (λ (rs : List Row). IsRest table two Structures (n1 + 1) (o1 + size_of (type_rows table ++ rs)) more2) rows rest2 in
+      let read : rows_read (n1 + 1) one o1 (type_rows table ++ rows1) ++ more1 ≡ rows_read (n1 + 1) two o1 (type_rows table ++ rows1) ++ more2 = e ∙ ap (λ (rs : List Row). rows_read (n1 + 1) two o1 (type_rows table ++ rs) ++ more2) rows in
+      let s = rows_same one two h g (n1 + 1) o1 (type_rows table ++ rows1) more1 more2 stand1 stand read in
+      rest_same one two o1 (type_rows table ++ rows1) (typed_plain table (type_read table one o1) rows1 known1) s.0 (rest_bytes Structures (n1 + 1) (o1 + size_of (type_rows table ++ rows1)) more1 more2 t s.1 rest1 rest)
+  rest_bytes tail number offset ms ns t e (locality n1 o1 count1 place1 more1 lt1 stand1 rest1) (ended tail2 n2 o2 enough2 e2) = absurd (no_locality (n1 + 1) one o1 count1 place1 more1 (sym e))
+  rest_bytes tail number offset ms ns t e (locality n1 o1 count1 place1 more1 lt1 stand1 rest1) (locality n2 o2 count2 place2 more2 lt2 stand2 rest2) =
       let s = rows_same one two h g (n1 + 1) o1 (locality_row count1 place1 ∷ []) more1 more2 stand1 stand2 e in
-      behind_same one two o1 count1 s.0.0 (rest_bytes (Localities count1 (place1 + 1)) (n1 + 1) (o1 + count1) more1 more2 s.1 rest1 rest2)
+      behind_same one two o1 count1 s.0.0 (rest_bytes (Localities count1 (place1 + 1)) (n1 + 1) (o1 + count1) more1 more2 tt s.1 rest1 rest2)
 
 -- ---- the header
 
@@ -374,29 +374,61 @@ headed_same one two h g s r same e =
 -- ---- whole tables
 
 -- what stands behind the fixed part is said by the fixed part
-tails_same : (table : Table) (one two : List ℕ) (revision : ℕ) → AreSame one two 36 (fixed_rows table revision) → rest_of table one ≡ rest_of table two
+-- the fixed part before localities begins with their number
+abbrev is_counted : List Row → Bool
+is_counted [] = false
+is_counted (row ∷ rows) = (row.width == 8) && plain_row row
+
+abbrev counted_by : Behind → Layout → Bool
+counted_by b.Nothing layout = true
+counted_by b.Entries layout = true
+counted_by b.Structures layout = true
+counted_by b.Localities layout = fixed_are is_counted layout
+
+abbrev AreCounted : Behind → List Row → Type 0
+AreCounted b.Nothing rows = Unit {0}
+AreCounted b.Entries rows = Unit {0}
+AreCounted b.Structures rows = Unit {0}
+AreCounted b.Localities rows = is_counted rows ≡ true
+
+are_counted : (behind : Behind) (layout : Layout) (revision : ℕ) → counted_by behind layout ≡ true → knows_by layout.sizes revision ≡ true → AreCounted behind (rows_by layout.sizes layout.fixed revision)
+are_counted b.Nothing layout revision h k = tt
+are_counted b.Entries layout revision h k = tt
+are_counted b.Structures layout revision h k = tt
+are_counted b.Localities layout revision h k = of_known is_counted layout revision h k
+
+fixed_counted : (table : Table) (revision : ℕ) → knows_revision table revision ≡ true → AreCounted (behind_of table) (fixed_rows table revision)
 unfolding fixed_rows
-tails_same t.Facp one two revision s = refl
-tails_same t.Hpet one two revision s = refl
-tails_same t.Mcfg one two revision s = refl
-tails_same t.Apic one two revision s = refl
-tails_same t.Srat one two revision s = refl
-tails_same t.Slit one two revision s = ap (λ (here : List ℕ). Localities (number_of here) 0) s.0
+fixed_counted table revision k = are_counted (behind_of table) (layout_of table) revision (of_each (λ (l : Layout). counted_by l.behind l) refl table) k
+
+count_same : (one two : List ℕ) (rows : List Row) → is_counted rows ≡ true → AreSame one two 36 rows → bytes_at one 36 8 ≡ bytes_at two 36 8
+count_same one two [] h s = absurd cc
+count_same one two (row ∷ rows) h s =
+    let each = both_true (row.width == 8) (plain_row row) h in
+    let width : row.width ≡ 8 = let e = each.0 in grind (arith, common_steps) in
+    let same = plain_same row.kind (bytes_at one 36 row.width) (bytes_at two 36 row.width) each.1 s.0 in
+    subst (λ (w : ℕ). bytes_at one 36 w ≡ bytes_at two 36 w) width same
+
+tails_by : (behind : Behind) (one two : List ℕ) (rows : List Row) → AreCounted behind rows → AreSame one two 36 rows → rest_by behind one ≡ rest_by behind two
+tails_by b.Nothing one two rows h s = refl
+tails_by b.Entries one two rows h s = refl
+tails_by b.Structures one two rows h s = refl
+tails_by b.Localities one two rows h s = ap (λ (here : List ℕ). Localities (number_of here) 0) (count_same one two rows h s)
 
 module _ (one two : List ℕ) (h : AreBytes one) (g : AreBytes two) where
-  of_table : (table : Table) (revision : ℕ) (ms ns : List Entry) → Stand one 0 (header_rows ++ fixed_rows table revision) → Stand two 0 (header_rows ++ fixed_rows table revision)
+  of_table : (table : Table) (revision : ℕ) (ms ns : List Entry) → knows_revision table revision ≡ true → Stand one 0 (header_rows ++ fixed_rows table revision) → Stand two 0 (header_rows ++ fixed_rows table revision)
       → IsRest table one (rest_of table one) 0 (size_of (header_rows ++ fixed_rows table revision)) ms → IsRest table two (rest_of table two) 0 (size_of (header_rows ++ fixed_rows table revision)) ns
       → rows_read 0 one 36 (fixed_rows table revision) ++ ms ≡ rows_read 0 two 36 (fixed_rows table revision) ++ ns → drop 36 one ≡ drop 36 two
-  of_table table revision ms ns s r rest1 rest2 e =
+  of_table table revision ms ns known s r rest1 rest2 e =
       let fixed : List Row = fixed_rows table revision in
       let at : 0 + size_of header_rows ≡ 36 = ap (λ (n : ℕ). 0 + n) header_size in
       let back1 : Stand one 36 fixed = subst (λ (o : ℕ). Stand one o fixed) at (stand_back one 0 header_rows fixed s) in
       let back2 : Stand two 36 fixed = subst (λ (o : ℕ). Stand two o fixed) at (stand_back two 0 header_rows fixed r) in
       let same = rows_same one two h g 0 36 fixed ms ns back1 back2 e in
       let size : size_of (header_rows ++ fixed) ≡ 36 + size_of fixed = sizes header_rows fixed ∙ ap (λ (n : ℕ). n + size_of fixed) header_size in
-      let tail : rest_of table one ≡ rest_of table two = tails_same table one two revision same.0 in
+      let tail : rest_of table one ≡ rest_of table two = tails_by (behind_of table) one two fixed (fixed_counted table revision known) same.0 in
       let other : IsRest table two (rest_of table one) 0 (size_of (header_rows ++ fixed)) ns = subst (λ (t : Tail). IsRest table two t 0 (size_of (header_rows ++ fixed)) ns) (sym tail) rest2 in
-      let behind = rest_bytes table one two h g (rest_of table one) 0 (size_of (header_rows ++ fixed)) ms ns same.1 rest1 other in
+      let behind = rest_bytes table one two h g (rest_of table one) 0 (size_of (header_rows ++ fixed)) ms ns (sound_rest table one) same.1 rest1 other in
       rest_same one two 36 fixed (fixed_plain table revision) same.0 (subst (λ (o : ℕ). drop o one ≡ drop o two) size behind)
     where
       sizes : (rows others : List Row) → size_of (rows ++ others) ≡ size_of rows + size_of others
@@ -424,7 +456,7 @@ one_table one two h g values r s =
     let rest : IsRest r.table two (rest_of r.table two) 0 (size_of (header_rows ++ fixed_rows r.table (number_read one 8 1))) s.more = coe_rest table rows s.rest in
     let read : rows_read 0 one 36 (fixed_rows r.table (number_read one 8 1)) ++ r.more ≡ rows_read 0 two 36 (fixed_rows r.table (number_read one 8 1)) ++ s.more =
     heads.1 ∙ ap (λ (rs : List Row). rows_read 0 two 36 rs ++ s.more) rows in
-    headed_same one two h g (states one front1) (states two front2) header (of_table one two h g r.table (number_read one 8 1) r.more s.more r.stand stand r.rest rest read)
+    headed_same one two h g (states one front1) (states two front2) header (of_table one two h g r.table (number_read one 8 1) r.more s.more r.revision r.stand stand r.rest rest read)
   where
     split : (bytes : List ℕ) (table : Table) (revision : ℕ) (more : List Entry) → rows_read 0 bytes 0 (header_rows ++ fixed_rows table revision) ++ more ≡ rows_read 0 bytes 0 header_rows ++ (rows_read 0 bytes 36 (fixed_rows table revision) ++ more)
     split bytes table revision more =

@@ -1,20 +1,28 @@
 -- Which fields the parts of tables have: none of those behind the header changes what comes next but a type and a number
 -- of localities, and each structure states its own length.
-use Rattle.std.proofs.Common.{◌≡◌, ◌+◌, ◌==◌, ◌&&◌, ◌||◌, ℕ, Bool, true, false, cond, List, [], ◌∷◌, Option, Some, None, refl, subst}
+use Rattle.std.proofs.Common.{◌≡◌, ◌<◌, ◌++◌, ◌==◌, ◌&&◌, ℕ, Bool, true, false, cond, List, [], ◌∷◌, Option, Some, None, refl, sym, subst, arith}
+use Rattle.std.specs.Prelude.{nat_lt}
+use Rattle.std.specs.List.{list_all}
+use Rattle.std.proofs.lemmas.Bool.{and_parts}
+use Rattle.std.proofs.lemmas.Bool.Decides.{nat_tests}
+use Rattle.std.proofs.lemmas.Grind.{common_steps}
 use Rattle.data_layout.specs.declared.row.Row.{Row}
 use Rattle.data_layout.specs.declared.row.Kind.{Kind}
 use Rattle.data_layout.specs.declared.row.Kind.TheVariants as k
+use Rattle.data_layout.specs.declared.row.Behind.{Behind}
+use Rattle.data_layout.specs.declared.row.Behind.TheVariants as b
 use Rattle.data_layout.specs.declared.table.Table.{Table}
-use Rattle.data_layout.specs.declared.table.Table.TheVariants as t
-use Rattle.data_layout.specs.Layout.{fadt_bytes, fadt_rows_of, fadt_rows, fixed_rows, entry_rows, type_rows, madt_rows, srat_rows, structure_rows}
-use Rattle.std.specs.Option.{is_some}
-use Rattle.data_tables.specs.Fields.{has_room, revision_fault}
+use Rattle.data_layout.specs.Layouts.{Layout}
+use Rattle.data_layout.specs.Layout.{layout_of, knows_revision, fixed_rows, behind_of, entry_rows, type_rows, structure_rows}
+use Rattle.data_layout.proofs.Lookup.{of_each, fixed_are, of_known, of_structure, of_typed}
+use Rattle.data_tables.specs.Fields.{has_room, width_fault, revision_fault}
 use Rattle.data_tables.specs.Reading.{size_of, IsKnownRevision}
 
 abbrev pub is_plain : Kind → ℕ → Bool
 is_plain k.Number width = true
 is_plain k.Text width = true
 is_plain k.Bytes width = true
+is_plain k.Guid width = true
 is_plain k.Reserved width = true
 is_plain k.TableLength width = false
 is_plain k.Checksum width = false
@@ -30,65 +38,35 @@ abbrev pub are_plain : List Row → Bool
 are_plain [] = true
 are_plain (row ∷ rows) = is_plain row.kind row.width && are_plain rows
 
--- the first field behind the type states the structure's length, the type's byte included
-abbrev pub states : ℕ → Kind → ℕ → Bool
-states size k.Number width = false
-states size k.Text width = false
-states size k.Bytes width = false
-states size k.Reserved width = false
-states size k.TableLength width = false
-states size k.Checksum width = false
-states size k.CompilerId width = false
-states size k.CompilerRevision width = false
-states size (k.Length stated) width = (stated == size) && (width == 1)
-states size k.Revision width = false
-states size k.StructureType width = false
-states size k.Localities width = false
-states size (k.Locality n) width = false
+-- each length that a structure states is its own
+abbrev pub states : ℕ → Kind → Bool
+states size k.Number = true
+states size k.Text = true
+states size k.Bytes = true
+states size k.Guid = true
+states size k.Reserved = true
+states size k.TableLength = true
+states size k.Checksum = true
+states size k.CompilerId = true
+states size k.CompilerRevision = true
+states size (k.Length stated) = stated == size
+states size k.Revision = true
+states size k.StructureType = true
+states size k.Localities = true
+states size (k.Locality n) = true
 
-abbrev pub states_size : List Row → Bool
-states_size [] = false
-states_size (row ∷ rows) = states (1 + (row.width + size_of rows)) row.kind row.width
+abbrev pub states_size : ℕ → List Row → Bool
+states_size size rows = list_all (λ (row : Row). states size row.kind) rows
 
-abbrev pub is_structure : List Row → Bool
-is_structure rows = are_plain rows && states_size rows
+pub structure_plain : (table : Table) (n : ℕ) (found : List Row) → structure_rows table n ≡ Some found → are_plain found ≡ true
+structure_plain table n found e = of_structure are_plain refl table n found e
 
-chosen : (b : Bool) (rows found : List Row) (other : Option (List Row)) → is_structure rows ≡ true → (other ≡ Some found → is_structure found ≡ true) → cond b (Some rows) other ≡ Some found → is_structure found ≡ true
-chosen true rows found other h k e = let same : rows ≡ found = cc in subst (λ (rs : List Row). is_structure rs ≡ true) same h
-chosen false rows found other h k e = k e
-
-madt_structure : (n : ℕ) (found : List Row) → madt_rows n ≡ Some found → is_structure found ≡ true
-unfolding madt_rows
-madt_structure n found =
-    chosen (n == 0) _ found _ refl (chosen (n == 1) _ found _ refl (chosen (n == 2) _ found _ refl (chosen (n == 3) _ found _ refl (
-    chosen (n == 4) _ found _ refl (chosen (n == 5) _ found _ refl (chosen (n == 9) _ found _ refl (chosen (n == 10) _ found _ refl (
-    chosen (n == 11) _ found _ refl (chosen (n == 12) _ found _ refl (chosen (n == 13) _ found _ refl (chosen (n == 14) _ found _ refl (
-    chosen (n == 15) _ found None refl (λ e. absurd cc)))))))))))))
-
-srat_structure : (n : ℕ) (found : List Row) → srat_rows n ≡ Some found → is_structure found ≡ true
-unfolding srat_rows
-srat_structure n found =
-    chosen (n == 0) _ found _ refl (chosen (n == 1) _ found _ refl (chosen (n == 2) _ found _ refl (
-    chosen (n == 3) _ found _ refl (chosen (n == 4) _ found _ refl (chosen (n == 5) _ found None refl (λ e. absurd cc))))))
-
-pub of_structure : (table : Table) (n : ℕ) (found : List Row) → structure_rows table n ≡ Some found → is_structure found ≡ true
-of_structure t.Apic n found e = madt_structure n found e
-of_structure t.Srat n found e = srat_structure n found e
-of_structure t.Facp n found e = absurd cc
-of_structure t.Mcfg n found e = absurd cc
-of_structure t.Hpet n found e = absurd cc
-of_structure t.Slit n found e = absurd cc
+pub structure_states : (table : Table) (n : ℕ) (found : List Row) → structure_rows table n ≡ Some found → states_size (size_of (type_rows table ++ found)) (type_rows table ++ found) ≡ true
+structure_states table n found e = of_typed (λ (types rows : List Row). states_size (size_of (types ++ rows)) (types ++ rows)) refl table n found e
 
 pub plain_first : (row : Row) (rows : List Row) → are_plain (row ∷ rows) ≡ true → (is_plain row.kind row.width ≡ true) × (are_plain rows ≡ true)
 plain_first row rows e =
     elim (is_plain row.kind row.width) as (λ b. (b && are_plain rows) ≡ true → (b ≡ true) × (are_plain rows ≡ true)) [
-      | true ↦ λ f. (refl, f)
-      | false ↦ λ f. absurd cc
-    ] e
-
-pub structure_parts : (rows : List Row) → is_structure rows ≡ true → (are_plain rows ≡ true) × (states_size rows ≡ true)
-structure_parts rows e =
-    elim (are_plain rows) as (λ b. (b && states_size rows) ≡ true → (b ≡ true) × (states_size rows ≡ true)) [
       | true ↦ λ f. (refl, f)
       | false ↦ λ f. absurd cc
     ] e
@@ -108,53 +86,78 @@ plain_part : (rows : List Row) → (is_some_rows rows && are_plain rows) ≡ tru
 plain_part [] e = absurd cc
 plain_part (row ∷ rows) e = record { first = row; others = rows; are = refl; plain = e }
 
-pub entries_plain : IsPlainPart entry_rows
-unfolding entry_rows
-entries_plain = plain_part entry_rows refl
+-- the fields of an entry, where there is one, are plain
+pub entries_plain : (table : Table) → are_plain (entry_rows table) ≡ true
+entries_plain table = of_each (λ (l : Layout). are_plain l.entries) refl table
 
-abbrev size_by : Bool → Bool → Bool → Bool → Option ℕ
-size_by a b c d = cond a (Some 116) (cond b (Some 244) (cond c (Some 268) (cond d (Some 276) None)))
+abbrev is_part : List Row → Bool
+is_part rows = is_some_rows rows && are_plain rows
 
-fadt_plain : (a b c d : Bool) → is_some (size_by a b c d) ≡ true → IsPlainPart (fadt_rows_of (size_by a b c d))
-fadt_plain true b c d e = plain_part (fadt_rows_of (Some 116)) refl
-fadt_plain false true c d e = plain_part (fadt_rows_of (Some 244)) refl
-fadt_plain false false true d e = plain_part (fadt_rows_of (Some 268)) refl
-fadt_plain false false false true e = plain_part (fadt_rows_of (Some 276)) refl
-fadt_plain false false false false e = absurd cc
+-- one field: the number of localities
+abbrev is_localities : Kind → ℕ → Bool
+is_localities k.Number width = false
+is_localities k.Text width = false
+is_localities k.Bytes width = false
+is_localities k.Guid width = false
+is_localities k.Reserved width = false
+is_localities k.TableLength width = false
+is_localities k.Checksum width = false
+is_localities k.CompilerId width = false
+is_localities k.CompilerRevision width = false
+is_localities (k.Length size) width = false
+is_localities k.Revision width = false
+is_localities k.StructureType width = false
+is_localities k.Localities width = width == 8
+is_localities (k.Locality n) width = false
 
-fadt_known : (n : ℕ) → revision_fault t.Facp 1 n ≡ None → is_some (fadt_bytes n) ≡ true
-fadt_known n e =
-    elim (is_some (fadt_bytes n)) as (λ b. cond {A = Option ℕ} b None (Some 6093) ≡ None → b ≡ true) [
-      | true ↦ λ f. refl
+abbrev is_count : List Row → Bool
+is_count [] = false
+is_count (row ∷ []) = is_localities row.kind row.width
+is_count (row ∷ other ∷ rows) = false
+
+-- the fixed part of a table is plain, or the number of localities behind it
+abbrev fixed_by : Behind → Layout → Bool
+fixed_by b.Nothing layout = fixed_are is_part layout
+fixed_by b.Entries layout = fixed_are is_part layout
+fixed_by b.Structures layout = fixed_are is_part layout
+fixed_by b.Localities layout = fixed_are is_count layout
+
+fixed_sound : (table : Table) → fixed_by (behind_of table) (layout_of table) ≡ true
+fixed_sound table = of_each (λ (l : Layout). fixed_by l.behind l) refl table
+
+-- of a revision without fault
+faultless : (table : Table) (w n : ℕ) → revision_fault table w n ≡ None → (knows_revision table n ≡ true) × (width_fault w n ≡ None)
+faultless table w n e =
+    elim (knows_revision table n) as (λ b. cond {A = Option ℕ} b (width_fault w n) (Some 6093) ≡ None → (b ≡ true) × (width_fault w n ≡ None)) [
+      | true ↦ λ f. (refl, f)
       | false ↦ λ f. absurd cc
     ] e
 
--- a revision without fault is one that the reading knows
+-- it is one that the reading knows
 pub known_revision : (table : Table) (n : ℕ) → revision_fault table 1 n ≡ None → IsKnownRevision table n
-known_revision t.Facp n e = fadt_known n e
-known_revision t.Apic n e = tt
-known_revision t.Mcfg n e = tt
-known_revision t.Hpet n e = tt
-known_revision t.Srat n e = tt
-known_revision t.Slit n e = tt
+known_revision table n e = let f = faultless table 1 n e in f.0
 
--- of the SLIT below
-abbrev pub IsSlit : Table → Type 0
-IsSlit t.Slit = Unit {0}
-IsSlit t.Facp = ⊥
-IsSlit t.Apic = ⊥
-IsSlit t.Mcfg = ⊥
-IsSlit t.Hpet = ⊥
-IsSlit t.Srat = ⊥
+pub narrow_revision : (table : Table) (n : ℕ) → revision_fault table 1 n ≡ None → width_fault 1 n ≡ None
+narrow_revision table n e = let f = faultless table 1 n e in f.1
 
-pub fixed_plain : (table : Table) (n : ℕ) → (IsSlit table → ⊥) → revision_fault table 1 n ≡ None → IsPlainPart (fixed_rows table n)
-unfolding fixed_rows fadt_rows
-fixed_plain t.Facp n h e = fadt_plain (n == 1) (n == 3 || n == 4) (n == 5) (n == 6) (fadt_known n e)
-fixed_plain t.Apic n h e = plain_part (fixed_rows t.Apic n) refl
-fixed_plain t.Mcfg n h e = plain_part (fixed_rows t.Mcfg n) refl
-fixed_plain t.Hpet n h e = plain_part (fixed_rows t.Hpet n) refl
-fixed_plain t.Srat n h e = plain_part (fixed_rows t.Srat n) refl
-fixed_plain t.Slit n h e = absurd (h tt)
+-- no localities stand behind it
+abbrev pub IsOther : Behind → Type 0
+IsOther b.Nothing = Unit {0}
+IsOther b.Entries = Unit {0}
+IsOther b.Structures = Unit {0}
+IsOther b.Localities = ⊥
+
+other_part : (behind : Behind) (layout : Layout) → IsOther behind → fixed_by behind layout ≡ true → fixed_are is_part layout ≡ true
+other_part b.Nothing layout o h = h
+other_part b.Entries layout o h = h
+other_part b.Structures layout o h = h
+other_part b.Localities layout o h = absurd o
+
+pub fixed_plain : (table : Table) (n : ℕ) → IsOther (behind_of table) → revision_fault table 1 n ≡ None → IsPlainPart (fixed_rows table n)
+unfolding fixed_rows
+fixed_plain table n o e =
+    let h = other_part (behind_of table) (layout_of table) o (fixed_sound table) in
+    plain_part (fixed_rows table n) (of_known is_part (layout_of table) n h (known_revision table n e))
 
 -- the one field of a part: its kind and its width
 pub record IsOne (rows : List Row) (kind : Kind) (width : ℕ) : Type 0 where
@@ -163,10 +166,94 @@ pub record IsOne (rows : List Row) (kind : Kind) (width : ℕ) : Type 0 where
   pub kind_is : first.kind ≡ kind
   pub width_is : first.width ≡ width
 
-pub type_one : IsOne type_rows k.StructureType 1
-unfolding type_rows
-type_one = record { first = _; are = refl; kind_is = refl; width_is = refl }
+-- one field: the type of a structure
+abbrev is_type_of : Kind → Bool
+is_type_of k.Number = false
+is_type_of k.Text = false
+is_type_of k.Bytes = false
+is_type_of k.Guid = false
+is_type_of k.Reserved = false
+is_type_of k.TableLength = false
+is_type_of k.Checksum = false
+is_type_of k.CompilerId = false
+is_type_of k.CompilerRevision = false
+is_type_of (k.Length size) = false
+is_type_of k.Revision = false
+is_type_of k.StructureType = true
+is_type_of k.Localities = false
+is_type_of (k.Locality n) = false
 
-pub slit_one : (n : ℕ) → IsOne (fixed_rows t.Slit n) k.Localities 8
+abbrev pub is_type : List Row → Bool
+is_type [] = false
+is_type (row ∷ []) = is_type_of row.kind && nat_lt 0 row.width
+is_type (row ∷ other ∷ rows) = false
+
+type_kind : (kind : Kind) → is_type_of kind ≡ true → kind ≡ k.StructureType
+type_kind k.Number e = absurd cc
+type_kind k.Text e = absurd cc
+type_kind k.Bytes e = absurd cc
+type_kind k.Guid e = absurd cc
+type_kind k.Reserved e = absurd cc
+type_kind k.TableLength e = absurd cc
+type_kind k.Checksum e = absurd cc
+type_kind k.CompilerId e = absurd cc
+type_kind k.CompilerRevision e = absurd cc
+type_kind (k.Length size) e = absurd cc
+type_kind k.Revision e = absurd cc
+type_kind k.StructureType e = refl
+type_kind k.Localities e = absurd cc
+type_kind (k.Locality n) e = absurd cc
+
+pub record IsType (rows : List Row) : Type 0 where
+  pub first : Row
+  pub are : rows ≡ first ∷ []
+  pub kind_is : first.kind ≡ k.StructureType
+  pub some : 0 < first.width
+
+pub type_one : (rows : List Row) → is_type rows ≡ true → IsType rows
+type_one [] e = absurd cc
+type_one (row ∷ []) e =
+    let each = and_parts (is_type_of row.kind) (nat_lt 0 row.width) e in
+    let some : 0 < row.width = let f = each.1 in grind (arith, nat_tests) in
+    record { first = row; are = refl; kind_is = type_kind row.kind each.0; some = some }
+type_one (row ∷ other ∷ rows) e = absurd cc
+
+-- where there is a field, it is such
+abbrev type_or_none : List Row → Bool
+type_or_none [] = true
+type_or_none (row ∷ rows) = is_type (row ∷ rows)
+
+types_sound : (table : Table) → type_or_none (type_rows table) ≡ true
+types_sound table = of_each (λ (l : Layout). type_or_none l.types) refl table
+
+pub first_type : (table : Table) (row : Row) (rows : List Row) → type_rows table ≡ row ∷ rows → is_type (type_rows table) ≡ true
+first_type table row rows e =
+    let sound = types_sound table in
+    subst (λ (rs : List Row). is_type rs ≡ true) (sym e) (subst (λ (rs : List Row). type_or_none rs ≡ true) e sound)
+
+one_count : (rows : List Row) → is_count rows ≡ true → IsOne rows k.Localities 8
+one_count [] e = absurd cc
+one_count (row ∷ []) e = by row.kind refl e
+  where
+    by : (kind : Kind) → row.kind ≡ kind → is_localities kind row.width ≡ true → IsOne (row ∷ []) k.Localities 8
+    by k.Number is f = absurd cc
+    by k.Text is f = absurd cc
+    by k.Bytes is f = absurd cc
+    by k.Guid is f = absurd cc
+    by k.Reserved is f = absurd cc
+    by k.TableLength is f = absurd cc
+    by k.Checksum is f = absurd cc
+    by k.CompilerId is f = absurd cc
+    by k.CompilerRevision is f = absurd cc
+    by (k.Length size) is f = absurd cc
+    by k.Revision is f = absurd cc
+    by k.StructureType is f = absurd cc
+    by k.Localities is f = let w : row.width ≡ 8 = grind (arith, common_steps) in record { first = row; are = refl; kind_is = is; width_is = w }
+    by (k.Locality n) is f = absurd cc
+one_count (row ∷ other ∷ rows) e = absurd cc
+
+pub fixed_count : (table : Table) (n : ℕ) → behind_of table ≡ b.Localities → revision_fault table 1 n ≡ None → IsOne (fixed_rows table n) k.Localities 8
 unfolding fixed_rows
-slit_one n = record { first = _; are = refl; kind_is = refl; width_is = refl }
+fixed_count table n e f =
+    let h : fixed_are is_count (layout_of table) ≡ true = subst (λ (behind : Behind). fixed_by behind (layout_of table) ≡ true) e (fixed_sound table) in
+    one_count (fixed_rows table n) (of_known is_count (layout_of table) n h (known_revision table n f))

@@ -14,7 +14,7 @@ use Rattle.data_tables.specs.declared.part.After.{After}
 use Rattle.data_tables.specs.declared.part.After.TheVariants as a
 use Rattle.byteorder.specs.Endian.{little_bytes}
 use Rattle.data_tables.specs.Entry.{Value, Number, Entry}
-use Rattle.data_tables.specs.Fields.{value_of, field_bytes, number_of_value}
+use Rattle.data_tables.specs.Fields.{guid_in, value_of, field_bytes, number_of_value}
 use Rattle.data_tables.specs.Parts.{Part, next_field, begins, behind, missing_after}
 use Rattle.data_tables.specs.Walk.{Field}
 use Rattle.data_tables.specs.Compiling.{piece_of, joined}
@@ -56,6 +56,9 @@ spelled_of all table k.Text w l f text value p g =
 spelled_of all table k.Bytes w l f text value p g =
     let b = given_bytes (row_of k.Bytes w l f) (bytes_in text) value g in
     given_spelled all (row_of k.Bytes w l f) value _ b.1 (record { width = b.2; reads = refl; stands = tt })
+spelled_of all table k.Guid w l f text value p g =
+    let b = given_bytes (row_of k.Guid w l f) (guid_in text) value g in
+    given_spelled all (row_of k.Guid w l f) value _ b.1 (record { width = b.2; reads = refl; stands = tt })
 spelled_of all table k.Reserved w l f text value p g =
     let n = given_number table (row_of k.Reserved w l f) (number_in text) value g in
     let z = reserved_zero n.0 n.2 in
@@ -149,6 +152,7 @@ pub behind_plain : (p : Part) (kind : Kind) (w n : ℕ) → is_plain kind w ≡ 
 behind_plain p k.Number w n e = refl
 behind_plain p k.Text w n e = refl
 behind_plain p k.Bytes w n e = refl
+behind_plain p k.Guid w n e = refl
 behind_plain p k.Reserved w n e = refl
 behind_plain p k.TableLength w n e = absurd cc
 behind_plain p k.Checksum w n e = absurd cc

@@ -1,26 +1,30 @@
 -- A text of at most 2^25 bytes comes to fewer than 2^32 bytes: a number or a text has at most 8 bytes, and bytes are no
 -- more than their value's characters.
-use Rattle.std.proofs.Common.{◌≡◌, ◌≤◌, ◌<◌, ◌+◌, ◌-◌, ◌*◌, ◌^◌, ◌==◌, ◌&&◌, nat_le, nat_lt, ℕ, Bool, true, false, cond, List, [], ◌∷◌, length, drop, map, Option, Some, None, Result, Ok, Err, refl, subst, arith, length-append}
+use Rattle.std.proofs.Common.{◌≡◌, ◌≤◌, ◌<◌, ◌+◌, ◌*◌, ◌^◌, ◌==◌, ◌&&◌, nat_le, nat_lt, ℕ, Bool, true, false, cond, List, [], ◌∷◌, ◌++◌, length, take, drop, map, Option, Some, None, Result, Ok, Err, refl, ap, subst, arith, length-append}
 use Rattle.std.specs.List.{sum_by}
 use Rattle.std.specs.Option.{unwrap_or}
 use Rattle.std.proofs.lemmas.Bool.{and_parts, leb-true}
 use Rattle.std.proofs.lemmas.List.Sums.{sum_by-cons}
 use Rattle.byteorder.specs.Endian.{little_bytes}
 use Rattle.aml_code.specs.Header.{filled, compiler_bytes}
+use Rattle.resource_macros.specs.Identifiers.{uuid_of, are_in_form, pair, pair_places}
+use Rattle.hex_text.specs.Blanks.{has_blanks_alone, drop_blanks}
+use Rattle.std.proofs.lemmas.List.{take-append-drop}
+use Rattle.std.proofs.lemmas.Grind.{common_steps}
 use Rattle.iasl_messages.specs.declared.place.Place.{Place}
 use Rattle.iasl_messages.specs.declared.place.Line.{Line}
 use Rattle.data_layout.specs.declared.row.Row.{Row}
 use Rattle.data_layout.specs.declared.row.Kind.{Kind}
 use Rattle.data_layout.specs.declared.row.Kind.TheVariants as k
 use Rattle.data_layout.specs.declared.table.Table.{Table}
-use Rattle.data_layout.specs.declared.table.Table.TheVariants as t
-use Rattle.data_layout.specs.declared.rows.TheConstants.{FACP}
-use Rattle.data_layout.specs.Layout.{table_of, header_rows, fadt_bytes, first_bytes, fadt_rows_of, fadt_rows, fixed_rows, entry_rows, type_rows, madt_rows, srat_rows, structure_rows, locality_row}
+use Rattle.data_layout.specs.Layouts.{Layout}
+use Rattle.data_layout.specs.Layout.{table_of, header_rows, fixed_rows, entry_rows, type_rows, structure_rows, locality_row}
+use Rattle.data_layout.proofs.Lookup.{of_each, of_fixed, of_structure}
 use Rattle.data_text.specs.declared.field_line.FieldLine.{FieldLine}
 use Rattle.data_text.specs.declared.field_line.DataText.{DataText}
 use Rattle.data_text.specs.Source.{text_of}
 use Rattle.data_text.specs.Values.{number_in, text_in, bytes_in}
-use Rattle.data_text.proofs.Sizes.{line_size, value_size, value_sizes, IsUpTo, text_sizes, bytes_length}
+use Rattle.data_text.proofs.Sizes.{line_size, value_size, value_sizes, IsUpTo, blanks_length, text_sizes, bytes_length}
 use Rattle.data_tables.specs.declared.decoding.Decoded.{Decoded}
 use Rattle.data_tables.specs.declared.decoding.Told.{Told}
 use Rattle.data_tables.specs.declared.decoding.Told.TheVariants as told
@@ -29,7 +33,7 @@ use Rattle.data_tables.specs.declared.field.Form.TheVariants as form
 use Rattle.data_tables.specs.declared.part.After.{After}
 use Rattle.data_tables.specs.declared.part.After.TheVariants as a
 use Rattle.data_tables.specs.Entry.{Value, Number, Bytes}
-use Rattle.data_tables.specs.Fields.{number_of_value, form_of, bytes_fault, value_of_bytes, value_by, value_of, value_bytes, bytes_by, field_bytes}
+use Rattle.data_tables.specs.Fields.{number_of_value, form_of, bytes_fault, value_of_bytes, guid_from, guid_in, value_by, value_of, value_bytes, bytes_by, field_bytes}
 use Rattle.data_tables.specs.Parts.{Part, Opened, first_part, first_of, after_fixed, open_after, open_rows, next_field, behind, missing}
 use Rattle.data_tables.specs.Decoding.{is_decoded, told_by}
 use Rattle.data_tables.specs.Walk.{Field, Walked, Step, Passed, Took, Halted, step_with, step_due, step_at, step_of, told_at, with_front, fault_if, after_step, walk}
@@ -45,6 +49,7 @@ abbrev is_narrow : Form → ℕ → Bool
 is_narrow form.Number width = nat_le width 8
 is_narrow form.Text width = nat_le width 8
 is_narrow form.Bytes width = true
+is_narrow form.Guid width = true
 
 abbrev are_narrow : List Row → Bool
 are_narrow [] = true
@@ -67,67 +72,25 @@ abbrev NarrowRows : Option (List Row) → Type 0
 NarrowRows None = Unit {0}
 NarrowRows (Some rows) = are_narrow rows ≡ true
 
-chosen : (b : Bool) (rows : List Row) (other : Option (List Row)) → are_narrow rows ≡ true → NarrowRows other → NarrowRows (cond b (Some rows) other)
-chosen true rows other h k = h
-chosen false rows other h k = k
-
 header_narrow : are_narrow header_rows ≡ true
 unfolding header_rows
 header_narrow = refl
 
-entries_narrow : are_narrow entry_rows ≡ true
-unfolding entry_rows
-entries_narrow = refl
+entries_narrow : (table : Table) → are_narrow (entry_rows table) ≡ true
+entries_narrow table = of_each (λ (l : Layout). are_narrow l.entries) refl table
 
-type_narrow : are_narrow type_rows ≡ true
-unfolding type_rows
-type_narrow = refl
-
--- the first bytes of a layout are narrow where all of it is
-front_narrow : (size : ℕ) (rows : List Row) → are_narrow rows ≡ true → are_narrow (first_bytes size rows) ≡ true
-front_narrow size [] h = refl
-front_narrow size (row ∷ rows) h =
-    let each = first_and_others row rows h in
-    by (nat_le row.width size) each.0 (front_narrow (size - row.width) rows each.1)
-  where
-    by : (b : Bool) → is_narrow (form_of row.kind) row.width ≡ true → are_narrow (first_bytes (size - row.width) rows) ≡ true → are_narrow (cond b (row ∷ first_bytes (size - row.width) rows) []) ≡ true
-    by true first others = rw (first, others) refl
-    by false first others = refl
-
-fadt_narrow : (size : Option ℕ) → are_narrow (fadt_rows_of size) ≡ true
-fadt_narrow None = refl
-fadt_narrow (Some size) = front_narrow (size - 36) FACP.now refl
+type_narrow : (table : Table) → are_narrow (type_rows table) ≡ true
+type_narrow table = of_each (λ (l : Layout). are_narrow l.types) refl table
 
 fixed_narrow : (table : Table) (n : ℕ) → are_narrow (fixed_rows table n) ≡ true
-unfolding fixed_rows fadt_rows
-fixed_narrow t.Facp n = fadt_narrow (fadt_bytes n)
-fixed_narrow t.Apic n = refl
-fixed_narrow t.Mcfg n = refl
-fixed_narrow t.Hpet n = refl
-fixed_narrow t.Srat n = refl
-fixed_narrow t.Slit n = refl
-
-madt_narrow : (n : ℕ) → NarrowRows (madt_rows n)
-unfolding madt_rows
-madt_narrow n =
-    chosen (n == 0) _ _ refl (chosen (n == 1) _ _ refl (chosen (n == 2) _ _ refl (chosen (n == 3) _ _ refl (
-    chosen (n == 4) _ _ refl (chosen (n == 5) _ _ refl (chosen (n == 9) _ _ refl (chosen (n == 10) _ _ refl (
-    chosen (n == 11) _ _ refl (chosen (n == 12) _ _ refl (chosen (n == 13) _ _ refl (chosen (n == 14) _ _ refl (
-    chosen (n == 15) _ None refl tt))))))))))))
-
-srat_narrow : (n : ℕ) → NarrowRows (srat_rows n)
-unfolding srat_rows
-srat_narrow n =
-    chosen (n == 0) _ _ refl (chosen (n == 1) _ _ refl (chosen (n == 2) _ _ refl (
-    chosen (n == 3) _ _ refl (chosen (n == 4) _ _ refl (chosen (n == 5) _ None refl tt)))))
+fixed_narrow table n = of_fixed are_narrow refl refl table n
 
 structure_narrow : (table : Table) (n : ℕ) → NarrowRows (structure_rows table n)
-structure_narrow t.Apic n = madt_narrow n
-structure_narrow t.Srat n = srat_narrow n
-structure_narrow t.Facp n = tt
-structure_narrow t.Mcfg n = tt
-structure_narrow t.Hpet n = tt
-structure_narrow t.Slit n = tt
+structure_narrow table n = by (structure_rows table n) refl
+  where
+    by : (found : Option (List Row)) → structure_rows table n ≡ found → NarrowRows found
+    by None e = tt
+    by (Some rows) e = of_structure are_narrow refl table n rows e
 
 -- ---- what comes next
 
@@ -138,8 +101,8 @@ first_narrow part (row ∷ rows) h = first_and_others row rows h
 after_narrow : (part : Part) (after : After) → NarrowOpened (open_after part after)
 after_narrow part a.Fixed = first_narrow (record part { after = after_fixed part.table }) (fixed_rows part.table part.revision) (fixed_narrow part.table part.revision)
 after_narrow part a.Nothing = tt
-after_narrow part a.Entries = first_narrow part entry_rows entries_narrow
-after_narrow part a.Structures = first_narrow part type_rows type_narrow
+after_narrow part a.Entries = first_narrow part (entry_rows part.table) (entries_narrow part.table)
+after_narrow part a.Structures = first_narrow part (type_rows part.table) (type_narrow part.table)
 after_narrow part (a.Matrix count number) = by (nat_lt number count)
   where
     by : (b : Bool) → NarrowOpened (cond b (Ok (locality_row count number, record part { rows = []; after = a.Matrix count (number + 1) })) (Err 6097))
@@ -159,6 +122,7 @@ behind_narrow part k.StructureType number h = by (structure_rows part.table numb
 behind_narrow part k.Number number h = h
 behind_narrow part k.Text number h = h
 behind_narrow part k.Bytes number h = h
+behind_narrow part k.Guid number h = h
 behind_narrow part k.Reserved number h = h
 behind_narrow part k.TableLength number h = h
 behind_narrow part k.Checksum number h = h
@@ -186,6 +150,34 @@ given_up_to row (Some bytes) value most h e = by (length bytes == row.width) e
     by true g = let same : Bytes bytes ≡ value = cc in subst (λ (v : Value). length (value_bytes row.width v) ≤ most) same h
     by false g = absurd cc
 
+-- a UUID has fewer bytes than characters
+uuid_length : (text : List ℕ) → IsUpTo (length text) (uuid_of text)
+unfolding uuid_of
+uuid_length text = by (length text == 36) (are_in_form 0 text) refl
+  where
+    by : (b c : Bool) → (length text == 36) ≡ b → IsUpTo (length text) (cond (b && c) (Some (map (pair text) pair_places)) None)
+    by true true e = let size : length text ≡ 36 = grind (arith, common_steps) in let bytes : length (map (pair text) pair_places) ≡ 16 = refl in omega (arith, size, bytes)
+    by true false e = tt
+    by false c e = tt
+
+taken_length : (n : ℕ) (text : List ℕ) → length (take n text) ≤ length text
+taken_length n text = let both = length-append (take n text) (drop n text) in let all : length (take n text ++ drop n text) ≡ length text = ap length (take-append-drop n text) in omega (arith, both, all)
+
+guid_from_length : (text : List ℕ) → IsUpTo (length text) (guid_from text)
+guid_from_length text = by (has_blanks_alone (drop 36 text)) (uuid_of (take 36 text)) (uuid_length (take 36 text))
+  where
+    by : (b : Bool) (found : Option (List ℕ)) → IsUpTo (length (take 36 text)) found → IsUpTo (length text) (cond b found None)
+    by true None h = tt
+    by true (Some bytes) h = let less : length (take 36 text) ≤ length text = taken_length 36 text in omega (arith, h, less)
+    by false found h = tt
+
+guid_length : (text : List ℕ) → IsUpTo (length text) (guid_in text)
+guid_length text = by (guid_from (drop_blanks text)) (guid_from_length (drop_blanks text))
+  where
+    by : (found : Option (List ℕ)) → IsUpTo (length (drop_blanks text)) found → IsUpTo (length text) found
+    by None h = tt
+    by (Some bytes) h = let less = blanks_length text in omega (arith, h, less)
+
 given_room : (table : Table) (row : Row) (text : List ℕ) (value : Value) (f : Form) → is_narrow f row.width ≡ true → value_by f table row text ≡ Ok value → length (value_bytes row.width value) ≤ value_room text
 given_room table row text value form.Number n e =
     let g = given_number table row (number_in text) value e in
@@ -200,6 +192,7 @@ given_room table row text value form.Text n e =
     let within : length (value_bytes row.width (Bytes (filled row.width g.0))) ≤ value_room text = omega (arith, size, room) in
     rw g.2 within
 given_room table row text value form.Bytes n e = let h = given_up_to row (bytes_in text) value (length text) (bytes_length text) e in omega (arith, h)
+given_room table row text value form.Guid n e = let h = given_up_to row (guid_in text) value (length text) (guid_length text) e in omega (arith, h)
 
 computed_room : (width number : ℕ) (text : List ℕ) → nat_le width 8 ≡ true → length (little_bytes width number) ≤ value_room text
 computed_room width number text e =
@@ -212,6 +205,7 @@ kind_room : (kind : Kind) (width : ℕ) (value : Value) (text : List ℕ) → is
 kind_room k.Number width value text n h = h
 kind_room k.Text width value text n h = h
 kind_room k.Bytes width value text n h = h
+kind_room k.Guid width value text n h = h
 kind_room k.Reserved width value text n h = h
 kind_room k.TableLength width value text n h = computed_room width 0 text n
 kind_room k.Checksum width value text n h = computed_room width 0 text n

@@ -1,5 +1,5 @@
 -- Decoded lines, which tell the flags of the field above them.
-use Rattle.std.specs.Prelude.{ℕ, nat_eq, ◌==◌, ◌&&◌, ◌||◌, not, Bool, false, cond, List, [], ◌∷◌, codes, Some, None}
+use Rattle.std.specs.Prelude.{ℕ, nat_eq, ◌==◌, ◌&&◌, ◌||◌, not, Bool, true, false, cond, List, [], ◌∷◌, codes, Some, None}
 use Rattle.std.specs.declared.option.Option.{Option}
 use Rattle.std.specs.Option.{is_some}
 use Rattle.std.specs.List.{ends_with}
@@ -47,8 +47,12 @@ abbrev pub told_by : Option Decoded → FieldLine → Told
 told_by None line = told.Nothing
 told_by (Some field) line = told_by_field field line
 
--- decoded lines may follow a field line whose label ends in `(decoded below)`
+abbrev pub has_flags : List Flag → Bool
+has_flags [] = false
+has_flags (flag ∷ flags) = true
+
+-- decoded lines may follow a field line whose label ends in `(decoded below)`, or whose field has flags
 abbrev pub decoded_of : Row → ℕ → FieldLine → Option Decoded
 decoded_of row number line =
-    cond (ends_with nat_eq line.label (codes "(decodedbelow)"))
+    cond (ends_with nat_eq line.label (codes "(decodedbelow)") || has_flags (flags_of row.flags))
     (Some (record { flags = row.flags; number = number; bracketed = line.bracketed })) None

@@ -6,12 +6,13 @@ use Rattle.std.specs.declared.result.Result.{Result}
 use Rattle.std.specs.Option.{is_some}
 use Rattle.byteorder.specs.Endian.{little_bytes}
 use Rattle.aml_code.specs.Header.{filled, compiler_bytes}
+use Rattle.resource_macros.specs.Identifiers.{uuid_of}
+use Rattle.hex_text.specs.Blanks.{has_blanks_alone, drop_blanks}
 use Rattle.data_layout.specs.declared.row.Row.{Row}
 use Rattle.data_layout.specs.declared.row.Kind.{Kind}
 use Rattle.data_layout.specs.declared.row.Kind.TheVariants as k
 use Rattle.data_layout.specs.declared.table.Table.{Table}
-use Rattle.data_layout.specs.declared.table.Table.TheVariants as t
-use Rattle.data_layout.specs.Layout.{fadt_bytes, structure_rows}
+use Rattle.data_layout.specs.Layout.{knows_revision, structure_rows}
 use Rattle.data_text.specs.Labels.{label_key}
 use Rattle.data_text.specs.Values.{number_in, text_in, bytes_in}
 use Rattle.data_tables.specs.declared.field.Form.{Form}
@@ -28,6 +29,7 @@ abbrev pub form_of : Kind → Form
 form_of k.Text = form.Text
 form_of k.CompilerId = form.Text
 form_of k.Bytes = form.Bytes
+form_of k.Guid = form.Guid
 form_of (k.Locality n) = form.Bytes
 form_of kind = form.Number
 
@@ -39,10 +41,9 @@ has_room width number = nat_lt number (2 ^ 64) && nat_lt number (2 ^ (8 * width)
 abbrev pub width_fault : ℕ → ℕ → Option ℕ
 width_fault width number = cond (has_room width number) None (Some 6094)
 
--- or a FADT has no such revision (6093)
+-- or the table is not known in such a revision (6093)
 abbrev pub revision_fault : Table → ℕ → ℕ → Option ℕ
-revision_fault t.Facp width number = cond (is_some (fadt_bytes number)) None (Some 6093)
-revision_fault table width number = width_fault width number
+revision_fault table width number = cond (knows_revision table number) (width_fault width number) (Some 6093)
 
 abbrev pub has_structure : Table → ℕ → Bool
 has_structure table number = is_some (structure_rows table number)
@@ -88,10 +89,18 @@ abbrev pub value_of_bytes : Row → Option (List ℕ) → Result Value ℕ
 value_of_bytes row None = Err 6093
 value_of_bytes row (Some bytes) = cond (length bytes == row.width) (Ok (Bytes bytes)) (Err (bytes_fault row.kind))
 
+-- the UUID that a value is: 36 characters between blanks
+abbrev pub guid_from : List ℕ → Option (List ℕ)
+guid_from text = cond (has_blanks_alone (drop 36 text)) (uuid_of (take 36 text)) None
+
+abbrev pub guid_in : List ℕ → Option (List ℕ)
+guid_in value = guid_from (drop_blanks value)
+
 abbrev pub value_by : Form → Table → Row → List ℕ → Result Value ℕ
 value_by form.Number table row text = value_of_number table row (number_in text)
 value_by form.Text table row text = value_of_text row (text_in text)
 value_by form.Bytes table row text = value_of_bytes row (bytes_in text)
+value_by form.Guid table row text = value_of_bytes row (guid_in text)
 
 -- the value that a field of a table is given, or its message's number
 abbrev pub value_of : Table → Row → List ℕ → Result Value ℕ

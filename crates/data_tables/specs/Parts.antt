@@ -6,9 +6,10 @@ use Rattle.std.specs.Option.{unwrap_or}
 use Rattle.data_layout.specs.declared.row.Row.{Row}
 use Rattle.data_layout.specs.declared.row.Kind.{Kind}
 use Rattle.data_layout.specs.declared.row.Kind.TheVariants as k
+use Rattle.data_layout.specs.declared.row.Behind.{Behind}
+use Rattle.data_layout.specs.declared.row.Behind.TheVariants as b
 use Rattle.data_layout.specs.declared.table.Table.{Table}
-use Rattle.data_layout.specs.declared.table.Table.TheVariants as t
-use Rattle.data_layout.specs.Layout.{header_rows, fixed_rows, entry_rows, type_rows, structure_rows, locality_row}
+use Rattle.data_layout.specs.Layout.{header_rows, fixed_rows, behind_of, entry_rows, type_rows, structure_rows, locality_row}
 use Rattle.data_tables.specs.declared.part.After.{After}
 use Rattle.data_tables.specs.declared.part.After.TheVariants as a
 
@@ -25,13 +26,14 @@ abbrev pub first_part : Table → Part
 first_part table = record { table = table; revision = 0; rows = header_rows; after = a.Fixed }
 
 -- what comes after the fixed part
+abbrev pub after_by : Behind → After
+after_by b.Nothing = a.Nothing
+after_by b.Entries = a.Entries
+after_by b.Structures = a.Structures
+after_by b.Localities = a.Matrix 0 0
+
 abbrev pub after_fixed : Table → After
-after_fixed t.Facp = a.Nothing
-after_fixed t.Hpet = a.Nothing
-after_fixed t.Mcfg = a.Entries
-after_fixed t.Apic = a.Structures
-after_fixed t.Srat = a.Structures
-after_fixed t.Slit = a.Matrix 0 0
+after_fixed table = after_by (behind_of table)
 
 -- a field, and what comes after it
 abbrev pub Opened : Type 0
@@ -51,8 +53,8 @@ next_locality part count number =
 abbrev pub open_after : Part → After → Result Opened ℕ
 open_after part a.Fixed = first_of (record part { after = after_fixed part.table }) (fixed_rows part.table part.revision)
 open_after part a.Nothing = Err 6092
-open_after part a.Entries = first_of part entry_rows
-open_after part a.Structures = first_of part type_rows
+open_after part a.Entries = first_of part (entry_rows part.table)
+open_after part a.Structures = first_of part (type_rows part.table)
 open_after part (a.Matrix count number) = next_locality part count number
 
 abbrev pub open_rows : Part → List Row → Result Opened ℕ

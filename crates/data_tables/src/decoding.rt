@@ -90,7 +90,8 @@ pub(crate) fn told_by_field(field: &Decoded, line: &FieldLine) -> Told
 pub(crate) fn decoded_of(row: &Row, number: u64, line: &FieldLine) -> Option<Decoded>
     ensures { result ≡ decoded_of row.now number line.now }
 {
-    if line.label.as_slice().ends_with(b"(decodedbelow)") {
+    let marked = line.label.as_slice().ends_with(b"(decodedbelow)");
+    if marked || !flags_of(row.flags).is_empty() {
         Some(Decoded {
             flags: row.flags,
             number,

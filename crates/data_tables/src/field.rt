@@ -10,15 +10,20 @@ ghost use Rattle.data_tables.specs.Views.{IsValue};
 
 use byteorder::{ByteOrder, LittleEndian};
 use data_layout::row::{Kind, Row};
-use data_layout::table::{Table, fadt_bytes, structure_rows};
+use data_layout::table::{Table, is_sized, knows_revision, structure_rows};
 use data_text::values::{Number, bytes_in, number_in, text_in};
+use hex_text::blanks::{has_blanks_alone, skip_blanks};
 use iasl_messages::number::{
     BAD_LOCALITY_MATRIX, BAD_VALUE, UNKNOWN_STRUCTURE_TYPE, VALUE_IS_TOO_WIDE,
 };
+use resource_macros::identifiers::uuid;
 use std::alloc::{AllocError, Global};
 
 /// The most localities that a table may have.
 const MOST_LOCALITIES: u64 = 4000;
+
+/// How many characters a UUID has.
+const GUID_LENGTH: usize = 36;
 
 /// How a value is written.
 #[derive(Clone, Copy, PartialEq, Eq)]
@@ -26,6 +31,7 @@ pub(crate) enum Form {
     Number,
     Text,
     Bytes,
+    Guid,
 }
 
 /// What a field is given.
@@ -43,6 +49,7 @@ fn form_of(kind: Kind) -> Form
     match kind {
         Kind::Text | Kind::CompilerId => Form::Text,
         Kind::Bytes | Kind::Locality(_) => Form::Bytes,
+        Kind::Guid => Form::Guid,
         Kind::Number
         | Kind::Reserved
         | Kind::TableLength
@@ -76,17 +83,10 @@ fn width_fault(width: u64, number: u64) -> Option<u16>
 fn revision_fault(table: Table, width: u64, number: u64) -> Option<u16>
     ensures { result ≡ spec.revision_fault table width number }
 {
-    match table {
-        Table::Facp => {
-            if fadt_bytes(number).is_some() {
-                None
-            } else {
-                Some(BAD_VALUE)
-            }
-        }
-        Table::Apic | Table::Mcfg | Table::Hpet | Table::Srat | Table::Slit => {
-            width_fault(width, number)
-        }
+    if knows_revision(table, number) {
+        width_fault(width, number)
+    } else {
+        Some(BAD_VALUE)
     }
 }
 
@@ -138,6 +138,7 @@ fn number_fault(table: Table, kind: Kind, width: u64, number: u64) -> Option<u16
         Kind::Number
         | Kind::Text
         | Kind::Bytes
+        | Kind::Guid
         | Kind::TableLength
         | Kind::Checksum
         | Kind::CompilerId
@@ -148,25 +149,23 @@ fn number_fault(table: Table, kind: Kind, width: u64, number: u64) -> Option<u16
 }
 
 // The message of a number of more than 64 bits.
-#[tactic(auto, using(crate::proofs::Rooms::no_room, crate::proofs::Rooms::no_revision, crate::proofs::Rooms::not_zero))]
+#[tactic(auto, using(crate::proofs::Rooms::no_room, crate::proofs::Rooms::no_revision, crate::proofs::Rooms::any_revision, crate::proofs::Rooms::not_zero))]
 fn wide_fault(table: Table, kind: Kind, width: u64) -> u16
     ensures { (number : ℕ) → 2 ^ 64 ≤ number → spec.number_fault table kind width number ≡ Some result }
 {
     match kind {
         Kind::Reserved => BAD_VALUE,
-        Kind::Revision => match table {
-            Table::Facp => BAD_VALUE,
-            Table::Apic | Table::Mcfg | Table::Hpet | Table::Srat | Table::Slit =>
-                VALUE_IS_TOO_WIDE,
-        },
+        Kind::Revision if is_sized(table) => BAD_VALUE,
         Kind::Number
         | Kind::Text
         | Kind::Bytes
+        | Kind::Guid
         | Kind::TableLength
         | Kind::Checksum
         | Kind::CompilerId
         | Kind::CompilerRevision
         | Kind::Length(_)
+        | Kind::Revision
         | Kind::StructureType
         | Kind::Localities
         | Kind::Locality(_) => VALUE_IS_TOO_WIDE,
@@ -233,6 +232,37 @@ fn bytes_value(alloc: Global, row: &Row, text: &[u8]) -> Result<Value, AllocErro
     }
 }
 
+// The UUID that a value is.
+#[tactic(auto, using(crate::proofs::Guids::short))]
+fn guid_in(value: &[u8]) -> Option<[u8; 16]>
+    ensures { result ≡ spec.guid_in value.now }
+{
+    let text = skip_blanks(value);
+    if text.len() <= GUID_LENGTH {
+        return uuid(text);
+    }
+    let (word, rest) = text.split_at(GUID_LENGTH);
+    if has_blanks_alone(rest) {
+        uuid(word)
+    } else {
+        None
+    }
+}
+
+fn guid_value(alloc: Global, row: &Row, text: &[u8]) -> Result<Value, AllocError>
+    ensures { IfOk result (λ value. IsValue value (spec.value_of_bytes row.now (spec.guid_in text.now))) }
+{
+    match guid_in(text) {
+        None => Ok(Value::Fault(BAD_VALUE)),
+        Some(found) => {
+            if found.len() as u64 != row.width {
+                return Ok(Value::Fault(bytes_fault(row.kind)));
+            }
+            Ok(Value::Bytes(found.to_vec(alloc)?))
+        }
+    }
+}
+
 /// The value that a field of a table is given.
 pub(crate) fn value_of(
     alloc: Global,
@@ -246,6 +276,7 @@ pub(crate) fn value_of(
         Form::Number => Ok(number_value(table, row, text)),
         Form::Text => text_value(alloc, row, text),
         Form::Bytes => bytes_value(alloc, row, text),
+        Form::Guid => guid_value(alloc, row, text),
     }
 }
 

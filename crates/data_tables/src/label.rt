@@ -78,6 +78,7 @@ pub(crate) fn is_row_label(key: &[u8], row: &Row) -> bool
         Kind::Number
         | Kind::Text
         | Kind::Bytes
+        | Kind::Guid
         | Kind::Reserved
         | Kind::TableLength
         | Kind::Checksum

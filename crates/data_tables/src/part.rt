@@ -6,9 +6,9 @@ ghost use Rattle.data_tables.specs.Views.{part_of, IsNext};
 ghost use Rattle.std.specs.Option.{unwrap_or};
 ghost use Rattle.data_layout.specs.Layout.{structure_rows};
 
-use data_layout::row::{Kind, Row};
+use data_layout::row::{Behind, Kind, Row};
 use data_layout::table::{
-    Table, entry_rows, fixed_rows, header_rows, locality_row, structure_rows, type_rows,
+    Table, behind_of, entry_rows, fixed_rows, header_rows, locality_row, structure_rows, type_rows,
 };
 use iasl_messages::number::{BAD_LOCALITY_MATRIX, FIELD_IS_MISSING, TOO_MANY_LINES};
 
@@ -57,11 +57,11 @@ pub(crate) fn first_part(table: Table) -> Part
 fn after_fixed(table: Table) -> After
     ensures { result ≡ after_fixed table }
 {
-    match table {
-        Table::Facp | Table::Hpet => After::Nothing,
-        Table::Mcfg => After::Entries,
-        Table::Apic | Table::Srat => After::Structures,
-        Table::Slit => After::Matrix(0, 0),
+    match behind_of(table) {
+        Behind::Nothing => After::Nothing,
+        Behind::Entries => After::Entries,
+        Behind::Structures => After::Structures,
+        Behind::Localities => After::Matrix(0, 0),
     }
 }
 
@@ -120,8 +120,8 @@ fn next_after(part: Part) -> Next
             fixed_rows(part.table, part.revision),
         ),
         After::Nothing => Next::Fault(TOO_MANY_LINES),
-        After::Entries => first_of(part, entry_rows()),
-        After::Structures => first_of(part, type_rows()),
+        After::Entries => first_of(part, entry_rows(part.table)),
+        After::Structures => first_of(part, type_rows(part.table)),
         After::Matrix(count, number) => next_locality(part, count, number),
     }
 }
@@ -161,6 +161,7 @@ pub(crate) fn behind(part: Part, kind: Kind, number: u64) -> Part
         Kind::Number
         | Kind::Text
         | Kind::Bytes
+        | Kind::Guid
         | Kind::Reserved
         | Kind::TableLength
         | Kind::Checksum

@@ -13,7 +13,6 @@ use crate::decoding::{Decoded, Told, decoded_of, is_decoded_below, told_by_field
 use crate::field::{Value, little_bytes, value_of};
 use crate::part::{Next, Part, behind, next_field};
 use data_layout::row::{Kind, Row};
-use data_layout::rows::{COMPILER_ID, COMPILER_REVISION};
 use data_layout::table::Table;
 use data_text::field_line::FieldLine;
 use iasl_messages::message::Message;
@@ -21,6 +20,7 @@ use iasl_messages::number::BAD_VALUE;
 use iasl_messages::place::Place;
 use iasl_ports::list::Text;
 use std::alloc::{AllocError, Global};
+use table_creator::{COMPILER_ID, COMPILER_REVISION};
 
 /// What a line is.
 #[derive(Drop)]
@@ -62,6 +62,7 @@ fn computed_bytes(alloc: Global, row: &Row) -> Result<Option<Vec<u8>>, AllocErro
         Kind::Number
         | Kind::Text
         | Kind::Bytes
+        | Kind::Guid
         | Kind::Reserved
         | Kind::Revision
         | Kind::StructureType

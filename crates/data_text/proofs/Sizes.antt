@@ -51,7 +51,7 @@ bare_length : (mode : Mode) (text : List ℕ) → length (uncommented_from mode 
 bare_length mode [] = refl
 bare_length mode (c ∷ rest) = ap (λ (n : ℕ). suc n) (bare_length (next_mode mode c (first_or_zero rest)) rest)
 
-blanks_length : (text : List ℕ) → length (drop_blanks text) ≤ length text
+pub blanks_length : (text : List ℕ) → length (drop_blanks text) ≤ length text
 blanks_length [] = omega arith
 blanks_length (c ∷ rest) = by (is_blank c) (blanks_length rest)
   where

@@ -152,7 +152,7 @@ fn read(alloc: Global, words: &[String]) -> Result<Task, WordsStop>
 }
 
 /// What the words of a call ask for, or the word that spoils them: a command line (`options`), or `--generate N` alone, where N is a number
-/// from 1 to 4096 in decimal, or `-T SIGNATURE` alone, where the signature is that of one of the six tables (docs/OPTIONS.md).
+/// from 1 to 4096 in decimal, or `-T SIGNATURE` alone, where the signature is that of a table with a layout (docs/OPTIONS.md).
 #[tactic(auto, using(crate::proofs::Tasks::answer_rules))]
 pub fn task_of(alloc: Global, words: &[String]) -> Result<Task, WordsStop>
     // What is answered is what the words ask for.

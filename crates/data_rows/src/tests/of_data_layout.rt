@@ -13,7 +13,7 @@ fn bytes_of(rows: &[Row]) -> u64 {
 
 // A table, its revision, and the length of its header and its fixed part in the ACPI Specification 6.4, and in the HPET and MCFG
 // specifications.
-static FIXED_PARTS: [(Table, u64, u64); 10] = [
+static FIXED_PARTS: [(Table, u64, u64); 24] = [
     (Table::Facp, 1, 116),
     (Table::Facp, 3, 244),
     (Table::Facp, 4, 244),
@@ -24,6 +24,20 @@ static FIXED_PARTS: [(Table, u64, u64); 10] = [
     (Table::Hpet, 1, 56),
     (Table::Srat, 3, 48),
     (Table::Slit, 1, 44),
+    (Table::Waet, 1, 40),
+    (Table::Bert, 1, 48),
+    (Table::Bgrt, 1, 56),
+    (Table::Spcr, 2, 80),
+    (Table::Tpm2, 4, 76),
+    (Table::Erst, 1, 48),
+    (Table::Einj, 1, 48),
+    (Table::Pcct, 2, 48),
+    (Table::Tcpa, 2, 50),
+    (Table::Gtdt, 2, 96),
+    (Table::Gtdt, 3, 104),
+    (Table::Hest, 1, 40),
+    (Table::Viot, 0, 48),
+    (Table::Nfit, 1, 40),
 ];
 
 #[test]
@@ -32,12 +46,13 @@ fn fixed_parts_have_their_lengths(rt: HostRuntime) {
     for (table, revision, bytes) in &FIXED_PARTS {
         assert!(rt; bytes_of(fixed_rows(*table, *revision)).saturating_add(36) == *bytes);
     }
-    assert!(rt; bytes_of(entry_rows()) == 16);
+    assert!(rt; bytes_of(entry_rows(Table::Mcfg)) == 16);
+    assert!(rt; bytes_of(entry_rows(Table::Erst)) == 32);
     assert!(rt; bytes_of(&[locality_row(20, 3)]) == 20);
 }
 
-// A table, the type of a structure, and its length in the ACPI Specification 6.4, 5.2.12 and 5.2.16.
-static STRUCTURES: [(Table, u64, u64); 19] = [
+// A table, the type of a structure, and its length in the ACPI Specification 6.4, 5.2.12, 5.2.16, 5.2.25, 5.2.26, 14.1 and 18.3.
+static STRUCTURES: [(Table, u64, u64); 39] = [
     (Table::Apic, 0, 8),
     (Table::Apic, 1, 12),
     (Table::Apic, 2, 10),
@@ -57,14 +72,36 @@ static STRUCTURES: [(Table, u64, u64); 19] = [
     (Table::Srat, 3, 18),
     (Table::Srat, 4, 12),
     (Table::Srat, 5, 32),
+    (Table::Pcct, 0, 62),
+    (Table::Pcct, 1, 62),
+    (Table::Pcct, 2, 90),
+    (Table::Pcct, 3, 164),
+    (Table::Pcct, 4, 164),
+    (Table::Gtdt, 1, 28),
+    (Table::Hest, 6, 48),
+    (Table::Hest, 7, 44),
+    (Table::Hest, 8, 56),
+    (Table::Hest, 9, 64),
+    (Table::Hest, 10, 92),
+    (Table::Viot, 1, 24),
+    (Table::Viot, 2, 24),
+    (Table::Viot, 3, 16),
+    (Table::Viot, 4, 16),
+    (Table::Nfit, 0, 56),
+    (Table::Nfit, 1, 48),
+    (Table::Nfit, 4, 80),
+    (Table::Nfit, 5, 40),
+    (Table::Nfit, 7, 16),
 ];
 
 #[test]
 fn structures_have_their_lengths(rt: HostRuntime) {
-    assert!(rt; bytes_of(type_rows()) == 1);
+    assert!(rt; bytes_of(type_rows(Table::Apic)) == 1);
     for (table, structure, bytes) in &STRUCTURES {
         match structure_rows(*table, *structure) {
-            Some(rows) => assert!(rt; bytes_of(rows).saturating_add(1) == *bytes),
+            Some(rows) => {
+                assert!(rt; bytes_of(rows).saturating_add(bytes_of(type_rows(*table))) == *bytes);
+            },
             None => assert!(rt; false),
         }
     }
