@@ -68,6 +68,7 @@ use iasl_messages::number::{NESTING_TOO_DEEP, SYNTAX};
 use iasl_messages::place::{Line, Lines, Pieces, Place};
 use iasl_ports::list::{List, Text};
 use literal_checks::check::cut_literals;
+use made_nodes::made::made_nodes;
 use name_spelling::spell::spell;
 use source_lines::lines::SourceLines;
 use std::alloc::{AllocError, Global};
@@ -223,9 +224,13 @@ fn steps_weight(terms: &[Node], present: Presence, fold: bool) -> u64
     }
 }
 
-// What is told of a program of such a size with these terms before a copy is made: nothing, where its nodes have numbers, or what would
-// be told of its core.
-fn early_errors(
+// The most nodes that the lowering may make, so that copies of copies do not fill the machine before the table would be too long: twice as
+// many as a table may have bytes, some 3 GB.
+const MOST_MADE: u64 = 33_554_432;
+
+// What is told of a program of such a size with these terms by the weight of the copies of its steps: nothing, where its nodes have
+// numbers, or what would be told of its core.
+fn copy_errors(
     alloc: Global,
     size: ProgramSize,
     terms: &[Node],
@@ -238,6 +243,26 @@ fn early_errors(
         (IsToldEarly fold block (trees_of terms.now) (plans_of terms.now)) }
 {
     copies_told(alloc, size, steps_weight(terms, present, fold))
+}
+
+// The same, before a copy is made. A program of which more would be made than a table has room for is not begun.
+fn early_errors(
+    alloc: Global,
+    size: ProgramSize,
+    terms: &[Node],
+    present: Presence,
+    fold: bool,
+) -> Result<Messages, AllocError>
+    requires formed { AreFormed (Unit {0}) AreNamed (Unit {0}) (Unit {0}) (trees_of terms.now) }
+    requires near { AreNear (trees_of terms.now) }
+    ensures { (block : Place) → IsSizeOf block (plans_of terms.now) size → IfOk result
+        (IsToldEarly fold block (trees_of terms.now) (plans_of terms.now)) }
+{
+    let told = copy_errors(alloc, size, terms, present, fold)?;
+    if told.is_empty() && made_nodes(terms) > MOST_MADE {
+        return Err(AllocError);
+    }
+    Ok(told)
 }
 
 // The methods that leave too few Locals for their Switches, which are looked for where Switches stand.

@@ -41,7 +41,8 @@ const HELP: &[u8] = b"usage: iasl [options] FILE ...
   -vw N           neither print nor count warnings and remarks of the number N
   -vs -w1 -w2 -w3 change nothing
   -G              the source is a generic data table
-  -T SIGNATURE    alone: write a template of a data table, as APIC, FACP, HPET, MCFG, SLIT or SRAT
+  -T SIGNATURE    alone: write a template of a data table: APIC, BERT, BGRT, EINJ, ERST, FACP, GTDT, HEST, HPET, MCFG,
+                  NFIT, PCCT, SLIT, SPCR, SRAT, TCPA, TPM2, VIOT or WAET
   --generate N    alone: compile a source of N devices, from 1 to 4096
   -h, --help      alone: this text
   -v, --version   alone: the version of this program

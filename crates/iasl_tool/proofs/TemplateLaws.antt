@@ -18,6 +18,19 @@ table_is t.Mcfg = refl
 table_is t.Hpet = refl
 table_is t.Srat = refl
 table_is t.Slit = refl
+table_is t.Waet = refl
+table_is t.Bert = refl
+table_is t.Bgrt = refl
+table_is t.Spcr = refl
+table_is t.Tpm2 = refl
+table_is t.Erst = refl
+table_is t.Einj = refl
+table_is t.Pcct = refl
+table_is t.Tcpa = refl
+table_is t.Gtdt = refl
+table_is t.Hest = refl
+table_is t.Viot = refl
+table_is t.Nfit = refl
 
 pub is_known : (table : Table) (signature : List ℕ) → signature ≡ signature_of table → is_some (table_of signature) ≡ true
 is_known table signature e = ap (λ (o : Option Table). is_some o) (ap table_of e ∙ table_is table)

@@ -6,8 +6,8 @@ ghost use Rattle.table_outputs.specs.Decision.{end_of, IsTemplate, IsMadeOf};
 ghost use Rattle.iasl_tool.specs.Due.{template_name, answer_to_template};
 
 use crate::due::console_text;
-use data_generic::template::{default_lines, signature_of};
-use data_layout::table::Table;
+use data_generic::template::default_lines;
+use data_layout::table::{Table, signature_of};
 use iasl_messages::console::template_line;
 use iasl_messages::message::Messages;
 use iasl_options::switches::Switches;
@@ -26,6 +26,19 @@ fn template_name(table: Table) -> &'static str
         Table::Hpet => "hpet.asl",
         Table::Srat => "srat.asl",
         Table::Slit => "slit.asl",
+        Table::Waet => "waet.asl",
+        Table::Bert => "bert.asl",
+        Table::Bgrt => "bgrt.asl",
+        Table::Spcr => "spcr.asl",
+        Table::Tpm2 => "tpm2.asl",
+        Table::Erst => "erst.asl",
+        Table::Einj => "einj.asl",
+        Table::Pcct => "pcct.asl",
+        Table::Tcpa => "tcpa.asl",
+        Table::Gtdt => "gtdt.asl",
+        Table::Hest => "hest.asl",
+        Table::Viot => "viot.asl",
+        Table::Nfit => "nfit.asl",
     }
 }
 

@@ -17,8 +17,6 @@ enum Outcome {
     Entries,
     /// The errors of names and of their kinds.
     Errors,
-    /// The notes on names.
-    Notes,
     /// The terms as they are spelled, with short names or not.
     Spelled { shorten: bool },
 }
@@ -28,7 +26,6 @@ fn told(alloc: Global, outcome: Outcome, text: &str) -> Result<String, AllocErro
         Outcome::Mentions => of_acpi_names::letters(alloc, text),
         Outcome::Entries => of_name_entries::entries_told(alloc, text),
         Outcome::Errors => of_name_checks::errors(alloc, text),
-        Outcome::Notes => of_name_notes::noted(alloc, text),
         Outcome::Spelled { shorten } => of_name_spelling::spelled_text(alloc, shorten, text),
     }
 }

@@ -5,3 +5,4 @@ mod of_iasl_messages;
 mod of_iasl_options;
 mod of_iasl_ports;
 mod of_source_lines;
+mod of_tasks;
